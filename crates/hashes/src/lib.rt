@@ -1,0 +1,4 @@
+// Hashes over a label kind: the interface, the draws from a seed, and the named hashes.
+pub mod draws;
+pub mod hash;
+pub mod paper;

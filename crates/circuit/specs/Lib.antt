@@ -1,0 +1,12 @@
+pub mod Refusals
+pub mod Words
+pub mod Header
+pub mod Parts
+pub mod Forms
+pub mod Gates
+pub mod Material
+pub mod Check
+pub mod Lent
+pub mod Passed
+pub mod Wires
+pub mod Plain

@@ -1,7 +1,7 @@
 -- How the refusals of the gates and of the whole circuit come about. Assumes nothing.
 use mathlib.Core.Path.{_≡_, refl, sym, ap, _∙_}
 use mathlib.Core.Bool.{Bool, true, false, not, cond}
-use mathlib.Core.List.{List}
+use mathlib.Core.List.{List, [], _∷_}
 use mathlib.Core.Logic.{inl, inr}
 use Prim.Native.Nat.{ℕ, zero, suc, _+_, _*_, _≤_, _<_}
 use native.Mathlib.Omega.{arith}
@@ -9,8 +9,8 @@ use lib.Dec.{ltb}
 use lib.ListN.{length}
 use Rattle.std.specs.declared.option.Option.{Option}
 use Rattle.std.specs.declared.option.Option.the-variants.{Some, None}
-use Rattle.std.proofs.shelf.Tests.{lt-ltb, le-ltb, cases-order}
-use Rattle.circuit.specs.Refusals.{or-else}
+use Rattle.std.proofs.shelf.Tests.{lt-ltb, le-ltb, cases-order, not-false}
+use Rattle.circuit.specs.Refusals.{first-of, or-else}
 use Rattle.circuit.specs.Parts.{Parts}
 use Rattle.circuit.specs.Gates.{made-before, in-order, rows-fit}
 use Rattle.circuit.specs.Check.{shape-refusal, wires-refusal, gate-refusal, gates-refusal, most-wires}
@@ -22,7 +22,22 @@ pub or-else-none : (a b : Option Refusal) → or-else a b ≡ None → (a ≡ No
 or-else-none (Some why) b e = absurd (let z : _≡_ {A = ℕ} 0 1 = cc in omega arith)
 or-else-none None b e = (refl, e)
 
+-- one test, which is not met
+pub only-none : (a : Bool) (x : Refusal) → first-of ((not a, x) ∷ []) ≡ None → a ≡ true
+only-none true x e = refl
+only-none false x e = absurd (let q : _≡_ {A = ℕ} 0 1 = cc in omega arith)
+
+-- of three tests, none is met
+none-of : (a b d : Bool) (x y z : Refusal) → first-of ((a, x) ∷ (b, y) ∷ (d, z) ∷ []) ≡ None → b ≡ false
+none-of true b d x y z e = absurd (let q : _≡_ {A = ℕ} 0 1 = cc in omega arith)
+none-of false true d x y z e = absurd (let q : _≡_ {A = ℕ} 0 1 = cc in omega arith)
+none-of false false d x y z e = refl
+
 module _ (c : Parts) where
+  wires-in-order : (g : ℕ) → wires-refusal c g ≡ None → in-order c g ≡ true
+  unfolding wires-refusal
+  wires-in-order g e = not-false (in-order c g) (none-of (ltb most-wires (made-before c (suc g))) (not (in-order c g)) (not (rows-fit c g)) _ _ _ e)
+
   -- one gate, of a known form and with its places within the arrays, after which w wires are made
   module _ (g w : ℕ) (shape : shape-refusal c g ≡ None) (made : w ≡ made-before c (suc g)) where
     over : most-wires < w → wires-refusal c g ≡ Some (TooManyWires g)
@@ -83,3 +98,10 @@ module _ (c : Parts) where
         | inl same ↦ (let q = p .1 in cc)
         | inr apart ↦ elim apart [ inl lt ↦ each-passes n (p .0) g lt | inr gt ↦ absurd (omega arith) ]
       ]
+
+  -- what a gate that passes tells
+  pub gate-shape : (g : ℕ) → gate-refusal c g ≡ None → shape-refusal c g ≡ None
+  gate-shape g e = or-else-none (shape-refusal c g) (wires-refusal c g) e .0
+
+  pub gate-in-order : (g : ℕ) → gate-refusal c g ≡ None → in-order c g ≡ true
+  gate-in-order g e = wires-in-order g (or-else-none (shape-refusal c g) (wires-refusal c g) e .1)

@@ -15,7 +15,7 @@ use Rattle.std.proofs.shelf.Lists.{drop-drop, length-drop}
 use Rattle.circuit.specs.Words.{part, word-at, all-below}
 use Rattle.circuit.specs.Header.{sizes-of, within, words-in}
 use Rattle.circuit.specs.Parts.{Parts, parts-at, parts-of}
-use Rattle.circuit.specs.Gates.{form-of, output-of, wires-in}
+use Rattle.circuit.specs.Gates.{form-of, output-of, wires-in, in-order}
 use Rattle.circuit.specs.Check.{size-refusal, shape-refusal, gates-refusal, outputs-refusal, circuit-refusal, most-wires}
 use Rattle.circuit.specs.Forms.{known}
 use Rattle.circuit.specs.Lent.{parts-in, Behind, Whole}
@@ -25,7 +25,7 @@ use Rattle.circuit.specs.declared.arrays.Arrays.{Arrays}
 use Rattle.circuit.specs.declared.refusal.Refusal.{Refusal}
 use Rattle.circuit.specs.declared.refusal.Refusal.the-variants.{Short, Size, Length, NotMade}
 use Rattle.circuit.proofs.Stretches.{length-part}
-use Rattle.circuit.proofs.Checks.{or-else-none, each-passes}
+use Rattle.circuit.proofs.Checks.{or-else-none, only-none, each-passes, gate-in-order}
 use Rattle.circuit.proofs.Shapes.{shape-known}
 
 module _ (bytes : List ℕ) where
@@ -185,3 +185,13 @@ pub form-known : (bytes : List ℕ) (c : Parts) (w : ℕ) → Passed bytes c w �
 form-known bytes c w p g h =
     let e = each-passes c (c .sizes .gates) (gates-pass bytes c w p) g h in
     shape-known c g (or-else-none (shape-refusal c g) _ e .0)
+
+pub outputs-pass : (bytes : List ℕ) (c : Parts) (w : ℕ) → Passed bytes c w → all-below (output-of c) (c .sizes .outputs) (wires-in c) ≡ true
+unfolding circuit-refusal
+outputs-pass bytes c w p =
+    let a = or-else-none (size-refusal bytes) _ (p .passes) in
+    let b = or-else-none (gates-refusal (parts-of bytes) (sizes-of bytes .gates)) _ (a .1) in
+    ap (λ (q : Parts). all-below (output-of q) (q .sizes .outputs) (wires-in q)) (p .parts) ∙ only-none _ _ (b .1)
+
+pub each-in-order : (bytes : List ℕ) (c : Parts) (w : ℕ) → Passed bytes c w → (g : ℕ) → g < c .sizes .gates → in-order c g ≡ true
+each-in-order bytes c w p g h = gate-in-order c g (each-passes c (c .sizes .gates) (gates-pass bytes c w p) g h)

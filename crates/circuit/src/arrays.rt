@@ -35,7 +35,14 @@ pub fn cut<'a>(s: Sizes, rest: &'a [u8]) -> Result<Arrays<'a>, Refusal>
     let operands = &rest[2 * gates..before_rows];
     let rows = &rest[before_rows..before_outputs];
     let outputs = &rest[before_outputs..rest.len()];
-    Ok(Arrays { sizes: s, forms, places, operands, rows, outputs })
+    Ok(Arrays {
+        sizes: s,
+        forms,
+        places,
+        operands,
+        rows,
+        outputs,
+    })
 }
 
 // The `count` words from word `from` on, if the array has them.

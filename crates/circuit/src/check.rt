@@ -10,8 +10,8 @@ ghost use Rattle.circuit.specs.Gates.{form-of, made-before, wires-in};
 ghost use Rattle.circuit.specs.Check.{gate-refusal, gates-refusal, circuit-refusal, bits-in, bytes-in, checked};
 ghost use Rattle.circuit.specs.Lent.{parts-in, Whole};
 ghost use Rattle.circuit.specs.Passed.{Passed};
-use crate::arrays::cut;
 use crate::arrays::Arrays;
+use crate::arrays::cut;
 use crate::gate::gate_at;
 use crate::header::header;
 use crate::header::within_limits;
@@ -105,5 +105,10 @@ pub fn check<L: Label>(circuit: &[u8]) -> Result<Checked, Refusal>
 {
     let c = read(circuit)?;
     let (bits, bytes) = material::<L>(c.arrays);
-    Ok(Checked { sizes: c.arrays.sizes, wires: c.wires, bits, bytes })
+    Ok(Checked {
+        sizes: c.arrays.sizes,
+        wires: c.wires,
+        bits,
+        bytes,
+    })
 }

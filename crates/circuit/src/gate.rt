@@ -9,8 +9,8 @@ ghost use Rattle.circuit.specs.Forms.{is-table};
 ghost use Rattle.circuit.specs.Gates.{form-of, place-of};
 ghost use Rattle.circuit.specs.Lent.{parts-in, Whole, GateAt, new-in, operands-in, narrow};
 ghost use mathlib.Core.Bool.{true, false};
-use crate::arrays::stretch;
 use crate::arrays::Arrays;
+use crate::arrays::stretch;
 use crate::refusal::Refusal;
 use crate::words::word_at;
 use crate::words::words_below;
@@ -18,9 +18,18 @@ use crate::words::words_below;
 // A gate, whose operands and rows are parts of the lent circuit. A table has n inputs and m outputs.
 #[derive(Clone, Copy)]
 pub enum Gate<'a> {
-    Xor { operands: &'a [u8] },
-    And { operands: &'a [u8] },
-    Table { n: u16, m: u16, operands: &'a [u8], rows: &'a [u8] },
+    Xor {
+        operands: &'a [u8],
+    },
+    And {
+        operands: &'a [u8],
+    },
+    Table {
+        n: u16,
+        m: u16,
+        operands: &'a [u8],
+        rows: &'a [u8],
+    },
 }
 
 // 2^n
@@ -54,7 +63,11 @@ pub fn gate_at<'a>(a: Arrays<'a>, g: u16) -> Result<Gate<'a>, Refusal>
     let Some(operands) = stretch(a.operands, place, 2) else {
         return Err(Refusal::PastArray(g));
     };
-    if form == 0 { Ok(Gate::Xor { operands }) } else { Ok(Gate::And { operands }) }
+    if form == 0 {
+        Ok(Gate::Xor { operands })
+    } else {
+        Ok(Gate::And { operands })
+    }
 }
 
 // Gate g of a form above 1.
@@ -76,7 +89,12 @@ fn table_at<'a>(a: Arrays<'a>, g: u16, form: u16, place: u16) -> Result<Gate<'a>
     let Some(rows) = stretch(a.rows, first, two_to(n)) else {
         return Err(Refusal::PastArray(g));
     };
-    Ok(Gate::Table { n, m: form % 256, operands: &words[0..2 * usize::from(n)], rows })
+    Ok(Gate::Table {
+        n,
+        m: form % 256,
+        operands: &words[0..2 * usize::from(n)],
+        rows,
+    })
 }
 
 impl<'a> Gate<'a> {
@@ -87,7 +105,12 @@ impl<'a> Gate<'a> {
         match self {
             Gate::Xor { operands: _ } => 1,
             Gate::And { operands: _ } => 1,
-            Gate::Table { n: _, m, operands: _, rows: _ } => m,
+            Gate::Table {
+                n: _,
+                m,
+                operands: _,
+                rows: _,
+            } => m,
         }
     }
 
@@ -98,7 +121,12 @@ impl<'a> Gate<'a> {
         match self {
             Gate::Xor { operands } => operands,
             Gate::And { operands } => operands,
-            Gate::Table { n: _, m: _, operands, rows: _ } => operands,
+            Gate::Table {
+                n: _,
+                m: _,
+                operands,
+                rows: _,
+            } => operands,
         }
     }
 
@@ -110,7 +138,25 @@ impl<'a> Gate<'a> {
         match self {
             Gate::Xor { operands: _ } => true,
             Gate::And { operands: _ } => true,
-            Gate::Table { n: _, m, operands: _, rows } => words_below(rows, two_to(m)),
+            Gate::Table {
+                n: _,
+                m,
+                operands: _,
+                rows,
+            } => words_below(rows, two_to(m)),
         }
+    }
+}
+
+// Gate g of a circuit that passed.
+pub fn passed_gate<'a>(a: Arrays<'a>, g: u16) -> Gate<'a>
+    requires there { ⌜ g < a .sizes .gates ⌝ }
+    requires whole { ⌜ Whole (parts-in a) ⌝ }
+    requires passed { ⌜ shape-refusal (parts-in a) g ≡ None ⌝ }
+    ensures { λ r. ⌜ GateAt (parts-in (a .entry)) g r ⌝ }
+{
+    match gate_at(a, g) {
+        Ok(gate) => gate,
+        Err(_) => unreachable(),
     }
 }

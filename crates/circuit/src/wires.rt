@@ -10,7 +10,6 @@ ghost use Rattle.circuit.specs.Wires.{Grown};
 pub struct Wires<'a, T> {
     pub values: &'a mut [T],
     pub made: usize,
-    ghost ok: { made ≤ length (values .now) },
 }
 
 // The value at a place.
@@ -23,7 +22,6 @@ fn at<T: Copy>(xs: &[T], w: usize) -> T
 
 impl<'a, T: Copy> Wires<'a, T> {
     pub fn new(values: &'a mut [T], made: usize) -> Wires<'a, T>
-        requires { ⌜ made ≤ length (now values) ⌝ }
         ensures values { λ r. ⌜ now (r .values) ≡ now (values .entry) ⌝ }
         ensures made { λ r. ⌜ r .made ≡ made ⌝ }
         ensures same { λ r. ⌜ name (r .values) ≡ name (values .entry) ⌝ }
@@ -33,7 +31,7 @@ impl<'a, T: Copy> Wires<'a, T> {
 
     // The value of a wire that is made.
     pub fn read(&self, w: u16) -> T
-        requires { ⌜ w < now self .made ⌝ }
+        requires { ⌜ w < now self .made ⌝ ∗ ⌜ now self .made ≤ length (now (now self .values)) ⌝ }
         ensures { λ r. ⌜ ((d : T) → r ≡ getD (now (now (self .entry) .values)) w d) ⌝ }
     {
         at(self.values, usize::from(w))

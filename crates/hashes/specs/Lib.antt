@@ -1,3 +1,4 @@
 pub mod Count
 pub mod Draws
 pub mod PaperHash
+pub mod ShaHash

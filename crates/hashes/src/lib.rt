@@ -2,3 +2,4 @@
 pub mod draws;
 pub mod hash;
 pub mod paper;
+pub mod sha_hash;

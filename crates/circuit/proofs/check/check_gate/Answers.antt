@@ -46,7 +46,8 @@ returns c =
     let p : Parts = parts-in (c .args .a) in
     let e = c .in-Continue-gate .ensures tt in
     let a = made-after p (c .args .g) (c .in-Continue-gate .gate) _ _ (e .1) (c .pre .before) (c .makes .ensures) in
-    let o = ordered p (c .args .g) (c .args .made) _ (c .in-Continue-gate .gate) (c .operands .result .now) true (e .1) (c .pre .before) (c .from .ensures) (c .operands .ensures) (c .if-not-words-below .ensures tt) in
-    ( gate-passes p (c .args .g) _ (e .0) a (omega arith) o (sym (c .if-not-rows-fit .ensures tt ∙ gate-rows p (c .args .g) (c .in-Continue-gate .gate) (e .1)))
-    , a
-    , omega arith )
+    let o = ordered p (c .args .g) (c .args .made) _ (c .in-Continue-gate .gate) (c .operands .result .now) true (e .1) (c .pre .before) (c .from .ensures) (c .operands .ensures) (c .if-not-words-below .ensures tt) in (
+      gate-passes p (c .args .g) _ (e .0) a (omega arith) o (sym (c .if-not-rows-fit .ensures tt ∙ gate-rows p (c .args .g) (c .in-Continue-gate .gate) (e .1))),
+      a,
+      omega arith,
+    )

@@ -64,7 +64,15 @@ returns c =
     let o : take (2 * c .from-3 .result - 0) (c .in-Some .words .now) ≡ part (place-of (parts-in (c .args .a)) (c .args .g)) (c .args .form / 256) (c .args .a .operands .now) = cc in
     let l : length (c .in-Some .words .now) ≡ 2 * (c .args .form / 256 + 1) = long (c .in-Some .words .now) _ _ _ _ (c .from .ensures) (s .0) (s .1) in
     let m : length (take (2 * c .from-3 .result - 0) (c .in-Some .words .now)) ≡ 2 * (c .args .form / 256) = search (needs, length-take-le) in
-    let k = length-part (c .word-at-first .result) (c .two-to .result) (c .args .a .rows .now) (t .0) in
-    ( table-fits (parts-in (c .args .a)) (c .args .g) (c .args .form) (c .args .place) (c .pre .formed) (c .pre .placed) (c .pre .whole) (c .pre .high) is (c .word-at-first .result) r (omega arith) (omega (arith, t .0))
-    , ( is-table-form (parts-in (c .args .a)) (c .args .g) (c .args .form) (c .args .place) (c .pre .formed) (c .pre .placed) (c .pre .whole) (c .pre .high) is
-      , (cc), (cc), o, m, (cc), (cc) ) )
+    let k = length-part (c .word-at-first .result) (c .two-to .result) (c .args .a .rows .now) (t .0) in (
+      table-fits (parts-in (c .args .a)) (c .args .g) (c .args .form) (c .args .place) (c .pre .formed) (c .pre .placed) (c .pre .whole) (c .pre .high) is (c .word-at-first .result) r (omega arith) (omega (arith, t .0)),
+      (
+        is-table-form (parts-in (c .args .a)) (c .args .g) (c .args .form) (c .args .place) (c .pre .formed) (c .pre .placed) (c .pre .whole) (c .pre .high) is,
+        (cc),
+        (cc),
+        o,
+        m,
+        (cc),
+        (cc),
+      ),
+    )

@@ -1,0 +1,9 @@
+pub mod Words
+pub mod Functions
+pub mod Constants
+pub mod Schedule
+pub mod Compression
+pub mod Padding
+pub mod Filling
+pub mod Digest
+pub mod Vector

@@ -1,0 +1,3 @@
+// Vectors of other implementations, run as tests.
+#[cfg(test)]
+mod sha_vectors;

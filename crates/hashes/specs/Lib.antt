@@ -1,4 +1,5 @@
 pub mod Count
 pub mod Draws
 pub mod PaperHash
+pub mod AesHash
 pub mod ShaHash

@@ -1,4 +1,5 @@
 // The paper hash, for work with a pencil.
+ghost use mathlib.Core.Path.{_≡_};
 ghost use Prim.Native.Nat.{_<_, _^_};
 ghost use Rattle.hashes.specs.PaperHash.{paper-hash};
 use crate::hash::LabelHash;
@@ -9,6 +10,15 @@ use labels::paper::PaperLabel;
 pub struct PaperHash {
     count: u64,
     ghost fits: { count < 2 ^ 64 },
+}
+
+impl PaperHash {
+    // The hash with its count of calls so far.
+    pub fn starting_at(count: u64) -> PaperHash
+        ensures { λ r. ⌜ r .count ≡ count ⌝ }
+    {
+        PaperHash { count }
+    }
 }
 
 pub impl LabelHash<Paper> for PaperHash as PaperLabelHash {

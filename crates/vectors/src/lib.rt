@@ -1,3 +1,9 @@
-// Vectors of other implementations, run as tests.
+// Published examples and values of independent implementations, run as tests.
 #[cfg(test)]
-mod sha_vectors;
+mod aes_cipher;
+#[cfg(test)]
+mod aes_values;
+#[cfg(test)]
+mod paper_values;
+#[cfg(test)]
+mod sha_values;

@@ -1,0 +1,4 @@
+pub mod Lines
+pub mod Worksheet
+pub mod Work
+pub mod Dividend

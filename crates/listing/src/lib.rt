@@ -1,0 +1,4 @@
+// What the programs print, as library functions from bytes to text.
+pub mod dividend;
+pub mod lines;
+pub mod worksheet;

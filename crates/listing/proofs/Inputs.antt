@@ -9,7 +9,7 @@ use lib.Dec.{ltb, eqb}
 use lib.ListN.{length, getD, take, drop}
 use Rattle.std.specs.declared.option.Option.{Option}
 use Rattle.std.specs.declared.option.Option.the-variants.{Some, None}
-use Rattle.std.proofs.shelf.Tests.{lt-ltb, le-ltb, eq-eqb, ne-eqb}
+use Rattle.std.proofs.shelf.Tests.{lt-ltb, le-ltb, eq-eqb, ne-eqb, eqb-true}
 use Rattle.std.proofs.shelf.Lists.{getD-take, length-drop}
 use Rattle.circuit.specs.Refusals.{first-of, or-else}
 use Rattle.circuit.specs.Words.{word-at, all-below}
@@ -21,6 +21,7 @@ use Rattle.circuit.specs.Plain.{plain-refusal}
 use Rattle.circuit.specs.declared.sizes.Sizes.{Sizes}
 use Rattle.circuit.specs.declared.refusal.Refusal.{Refusal}
 use Rattle.circuit.specs.declared.refusal.Refusal.the-variants.{Short, Size, Length, Memory, Bit}
+use Rattle.circuit.proofs.Checks.{or-else-none}
 use Rattle.listing.specs.Worksheet.{circuit-end, circuit-in, bits-from, input-refusal, worksheet-refusal}
 
 -- the front of a list has the words of the list
@@ -81,3 +82,17 @@ plain-bits bytes bits w o p l e f = let r = room bytes bits w o l e f in rw (p, 
 pub worksheet-at : (input : List ℕ) (n : ℕ) → input-refusal input ≡ None → circuit-refusal (circuit-in input) ≡ None → n ≡ sizes-of input .inputs
     → worksheet-refusal input ≡ first-of ((not (all-below (λ i. getD (bits-from input) i 0) n 2), Bit) ∷ [])
 worksheet-at input n a b e = rw (a, b, sym e)
+
+-- of three tests that are joined, none is met
+none-of : (a b d e : Bool) (x y : Refusal) → first-of ((a || (not b || not d), x) ∷ (e, y) ∷ []) ≡ None → d ≡ true
+none-of true b d e x y h = absurd (let z : _≡_ {A = ℕ} 0 1 = cc in omega arith)
+none-of false true true e x y h = refl
+none-of false true false e x y h = absurd (let z : _≡_ {A = ℕ} 0 1 = cc in omega arith)
+none-of false false d e x y h = absurd (let z : _≡_ {A = ℕ} 0 1 = cc in omega arith)
+
+-- an accepted evaluation has as many outputs as the circuit
+pub outputs-count : (bytes bits : List ℕ) (w o : ℕ) → plain-refusal bytes bits w o ≡ None → parts-of bytes .sizes .outputs ≡ o
+outputs-count bytes bits w o h =
+    let r = or-else-none (circuit-refusal bytes) _ h .1 in
+    let t : eqb o (parts-of bytes .sizes .outputs) ≡ true = none-of (ltb w (wires-in (parts-of bytes))) (eqb (length bits) (parts-of bytes .sizes .inputs)) (eqb o (parts-of bytes .sizes .outputs)) (not (all-below (λ i. getD bits i 0) (length bits) 2)) Memory Bit r in
+    sym (eqb-true o (parts-of bytes .sizes .outputs) t)

@@ -19,3 +19,7 @@ wires-same f h (suc n) e = ap₂ (λ (xs : List ℕ) (b : Bool). xs ++ wire-line
 pub numbers-same : (f h : ℕ → ℕ) (n : ℕ) → ((k : ℕ) → k < n → f k ≡ h k) → numbers f n ≡ numbers h n
 numbers-same f h zero e = refl
 numbers-same f h (suc n) e = ap₂ (λ (xs : List ℕ) (k : ℕ). xs ++ decimal k) (numbers-same f h n (λ w l. e w (omega arith))) (e n (omega arith))
+
+-- three pieces behind a text
+pub three : (t a b d t₁ t₂ t₃ : List ℕ) → t₁ ≡ t ++ a → t₂ ≡ t₁ ++ b → t₃ ≡ t₂ ++ d → t₃ ≡ t ++ (a ++ (b ++ d))
+three t a b d t₁ t₂ t₃ p q r = r ∙ ap (λ (x : List ℕ). x ++ d) (q ∙ ap (λ (x : List ℕ). x ++ b) p) ∙ append-assoc (t ++ a) b d ∙ append-assoc t a (b ++ d)

@@ -29,7 +29,12 @@ fn pair(heap: Global, first: usize, second: u8) -> Result<String, AllocError>
 }
 
 // Adds a line for each of the first `count` wires.
-pub fn add_wires(heap: Global, text: &mut String, wires: &[bool], count: usize) -> Result<(), AllocError>
+pub fn add_wires(
+    heap: Global,
+    text: &mut String,
+    wires: &[bool],
+    count: usize,
+) -> Result<(), AllocError>
     requires { ⌜ count ≤ length (now wires) ⌝ }
     ensures { λ r. ⌜ made r (λ _. string-bytes (now (text .exit)) ≡ string-bytes (now (text .entry)) ++ wire-lines (λ w. getD (now (wires .entry)) w false) count) ⌝ }
 {

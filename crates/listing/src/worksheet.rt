@@ -37,7 +37,11 @@ pub struct Input<'a> {
 fn words_of(s: Sizes) -> usize
     ensures { λ r. ⌜ r ≡ words-in s ⌝ }
 {
-    5 + 2 * usize::from(s.gates) + usize::from(s.operands) + usize::from(s.rows) + usize::from(s.outputs)
+    5
+        + 2 * usize::from(s.gates)
+        + usize::from(s.operands)
+        + usize::from(s.rows)
+        + usize::from(s.outputs)
 }
 
 // Cuts an input into its parts.

@@ -11,7 +11,8 @@ pub loop-j-again : need.loop-j-again
 loop-j-again c =
     let f : ℕ → Bool = λ o. eqb (getD (c .args .outputs .now) o 0) 1 in
     let i = c .loop-j .inv in
-    let w = weight-more f (c .loop-j .j) (c .loop-j .sum) (c .loop-j .weight) (i .0) (i .1) (i .2) in
-    ( number-more f (c .loop-j .j) (c .loop-j .sum) (c .loop-j .weight) (i .0) (i .1) (i .2) (f (c .loop-j .j)) _ refl (c .weighed-sum .ensures .value)
-    , w
-    , omega arith )
+    let w = weight-more f (c .loop-j .j) (c .loop-j .sum) (c .loop-j .weight) (i .0) (i .1) (i .2) in (
+      number-more f (c .loop-j .j) (c .loop-j .sum) (c .loop-j .weight) (i .0) (i .1) (i .2) (f (c .loop-j .j)) _ refl (c .weighed-sum .ensures .value),
+      w,
+      omega arith,
+    )

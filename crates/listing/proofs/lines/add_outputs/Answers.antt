@@ -6,11 +6,8 @@ use lib.ListN.{getD, length}
 use Rattle.std.proofs.shelf.Lists.{append-assoc}
 use Rattle.std.specs.Of.String.{string-bytes}
 use Rattle.listing.specs.Lines.{numbers, out-line}
+use Rattle.listing.proofs.Steps.{three}
 use Rattle.listing.proofs.lines.add_outputs.Needs as need
-
--- three pieces behind a text
-three : (t a b d t₁ t₂ t₃ : List ℕ) → t₁ ≡ t ++ a → t₂ ≡ t₁ ++ b → t₃ ≡ t₂ ++ d → t₃ ≡ t ++ (a ++ (b ++ d))
-three t a b d t₁ t₂ t₃ p q r = r ∙ ap (λ (x : List ℕ). x ++ d) (q ∙ ap (λ (x : List ℕ). x ++ b) p) ∙ append-assoc (t ++ a) b d ∙ append-assoc t a (b ++ d)
 
 pub returns : need.returns
 returns c = three (string-bytes (c .args .text .now)) (codes "out ") _ (codes "\n") _ _ _ (c .in-Continue-push-str .ensures tt .bytes) (c .in-Continue-add-numbers .ensures tt) (c .in-Continue-push-str-2 .ensures tt .bytes)

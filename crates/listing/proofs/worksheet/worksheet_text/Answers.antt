@@ -27,7 +27,7 @@ same-text input w o wires outputs part d e =
     let long : length part ≡ o = ap length e ∙ length-take-le o outputs (d .outs-within) in
     let lines = wires-same (λ k. getD wires k false) (plain-bit (parts-of (circuit-in input)) (bit-in (bits-from input))) w (d .bits) in
     let outs = numbers-same (λ k. getD part k 0) (λ k. digit (plain-bit (parts-of (circuit-in input)) (bit-in (bits-from input)) (output-of (parts-of (circuit-in input)) k))) o
-      (λ k h. ap (λ (xs : List ℕ). getD xs k 0) e ∙ getD-take o outputs k 0 h ∙ d .outs k h) in
+    (λ k h. ap (λ (xs : List ℕ). getD xs k 0) e ∙ getD-take o outputs k 0 h ∙ d .outs k h) in
     ap₂ (λ (xs ys : List ℕ). xs ++ (codes "out " ++ (ys ++ codes "\n"))) lines (ap (numbers (λ k. getD part k 0)) long ∙ outs)
     ∙ ap₂ (λ (i j : ℕ). wire-lines (plain-bit (parts-of (circuit-in input)) (bit-in (bits-from input))) i ++ out-line (λ k. digit (plain-bit (parts-of (circuit-in input)) (bit-in (bits-from input)) (output-of (parts-of (circuit-in input)) k))) j) (d .count) (d .outs-count)
     ∙ ap (text-or input) (sym (d .passes))

@@ -1,0 +1,15 @@
+pub mod Numbering
+pub mod Sums
+pub mod OneHot
+pub mod Tables
+pub mod Growing
+pub mod Running
+pub mod Filling
+pub mod Hot
+pub mod Masks
+pub mod Givens
+pub mod Mades
+pub mod Packing
+pub mod Placing
+pub mod Reading
+pub mod Gating

@@ -8,8 +8,8 @@ use crate::round::add_round_key;
 use crate::round::full_round;
 use crate::round::last_round;
 
-// The block encrypted under the key that the round keys were made of.
-pub fn encrypt_under(keys: &RoundKeys, block: Block) -> Block
+// All rounds, each with its round key.
+fn rounds_under(keys: &RoundKeys, block: Block) -> Block
     ensures { λ r. ⌜ bytes-of r ≡ enciphered (bytes-of (now (keys .entry) .key)) (bytes-of block) ⌝ }
 {
     let mut s = add_round_key(block, keys.at(0));
@@ -17,6 +17,13 @@ pub fn encrypt_under(keys: &RoundKeys, block: Block) -> Block
         s = full_round(s, keys.at(r));
     }
     last_round(s, keys.at(10))
+}
+
+// The block encrypted under the key that the round keys were made of.
+pub fn encrypt_under(keys: &RoundKeys, block: Block) -> Block
+    ensures { λ r. ⌜ bytes-of r ≡ enciphered (bytes-of (now (keys .entry) .key)) (bytes-of block) ⌝ }
+{
+    rounds_under(keys, block)
 }
 
 // The block encrypted under a key, with the key's expansion.

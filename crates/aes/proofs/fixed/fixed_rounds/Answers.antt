@@ -2,7 +2,7 @@ use Rattle.aes.specs.Bytes.{byte, bytes4}
 use Rattle.aes.specs.Columns.{bytes-of, columns}
 use Rattle.aes.specs.KeyExpansion.{four-words}
 use Rattle.aes.proofs.FixedKeys.{chain, fixed-words}
-use Rattle.aes.proofs.fixed.encrypt_fixed.Needs as need
+use Rattle.aes.proofs.fixed.fixed_rounds.Needs as need
 
 pub returns : need.returns
 unfolding byte bytes4 columns four-words fixed-words

@@ -4,7 +4,7 @@ use native.Mathlib.Omega.{arith}
 use Rattle.aes.specs.Columns.{bytes-of}
 use Rattle.aes.specs.Cipher.{rounds, cipher}
 use Rattle.aes.proofs.Turns.{one-more}
-use Rattle.aes.proofs.cipher.encrypt_under.Needs as need
+use Rattle.aes.proofs.cipher.rounds_under.Needs as need
 
 pub loop-r-again : need.loop-r-again
 loop-r-again c =

@@ -1,12 +1,11 @@
 -- How the refusals of the gates and of the whole circuit come about. Assumes nothing.
-use mathlib.Core.Path.{_≡_, refl, sym, ap, _∙_}
-use mathlib.Core.Bool.{Bool, true, false, not, cond}
-use mathlib.Core.List.{List, [], _∷_}
+use mathlib.Core.Path.{_≡_, refl}
+use mathlib.Core.Bool.{Bool, true, false, not}
+use mathlib.Core.List.{[], _∷_}
 use mathlib.Core.Logic.{inl, inr}
-use Prim.Native.Nat.{ℕ, zero, suc, _+_, _*_, _≤_, _<_}
+use Prim.Native.Nat.{ℕ, zero, suc, _≤_, _<_}
 use native.Mathlib.Omega.{arith}
 use lib.Dec.{ltb}
-use lib.ListN.{length}
 use Rattle.std.specs.declared.option.Option.{Option}
 use Rattle.std.specs.declared.option.Option.the-variants.{Some, None}
 use Rattle.std.proofs.shelf.Tests.{lt-ltb, le-ltb, cases-order, not-false}
@@ -71,9 +70,6 @@ module _ (c : Parts) where
 
       pub gate-passes : in-order c g ≡ true → rows-fit c g ≡ true → gate-refusal c g ≡ None
       gate-passes e f = rw shape (none e f)
-
-  pub shape-stops : (g : ℕ) (why : Refusal) → shape-refusal c g ≡ Some why → gate-refusal c g ≡ Some why
-  shape-stops g why e = rw e
 
   -- the first gates
   pub gates-more : (g : ℕ) → gates-refusal c g ≡ None → gate-refusal c g ≡ None → gates-refusal c (suc g) ≡ None

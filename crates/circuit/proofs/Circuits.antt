@@ -1,13 +1,12 @@
 -- How the refusal of a whole circuit comes about, and what its arrays are. Assumes nothing.
-use mathlib.Core.Path.{_≡_, refl, sym, ap, ap₂, subst, _∙_}
-use mathlib.Core.Bool.{Bool, true, false, not, cond}
+use mathlib.Core.Path.{_≡_, sym, ap, ap₂, subst, _∙_}
+use mathlib.Core.Bool.{true, false}
 use mathlib.Core.List.{List}
-use Prim.Native.Nat.{ℕ, zero, suc, _+_, _-_, _*_, _≤_, _<_, _/_}
+use Prim.Native.Nat.{ℕ, _+_, _-_, _*_, _≤_, _<_, _/_}
 use native.Mathlib.Omega.{arith}
-use lib.Dec.{ltb, eqb, leb}
+use lib.Dec.{ltb, eqb}
 use lib.ListN.{length, take, drop}
 use denote.Ref.{now}
-use Rattle.std.specs.declared.option.Option.{Option}
 use Rattle.std.specs.declared.option.Option.the-variants.{Some, None}
 use Rattle.std.proofs.shelf.Tests.{lt-ltb, le-ltb, eq-eqb, ne-eqb}
 use Rattle.std.proofs.shelf.Ways.{tells}
@@ -16,7 +15,7 @@ use Rattle.circuit.specs.Words.{part, word-at, all-below}
 use Rattle.circuit.specs.Header.{sizes-of, within, words-in}
 use Rattle.circuit.specs.Parts.{Parts, parts-at, parts-of}
 use Rattle.circuit.specs.Gates.{form-of, output-of, wires-in, in-order}
-use Rattle.circuit.specs.Check.{size-refusal, shape-refusal, gates-refusal, outputs-refusal, circuit-refusal, most-wires}
+use Rattle.circuit.specs.Check.{size-refusal, shape-refusal, gates-refusal, circuit-refusal, most-wires}
 use Rattle.circuit.specs.Forms.{known}
 use Rattle.circuit.specs.Lent.{parts-in, Behind, Whole}
 use Rattle.circuit.specs.Passed.{Passed}
@@ -146,25 +145,25 @@ module _ (bytes rest : List ℕ) (s : Sizes) (long : 10 ≤ length bytes) (es : 
     gates-stopped why e = gates-fail bytes long limits full why (gates-same ∙ e)
 
     module _ (w : ℕ) (gates : gates-refusal (parts-in a) (a .sizes .gates) ≡ None) (wires : w ≡ wires-in (parts-in a)) where
-      outputs-same : (k : ℕ) → k ≡ w → all-below (word-at (now (a .outputs))) (length (now (a .outputs)) / 2) k ≡ all-below (output-of (parts-of bytes)) (sizes-of bytes .outputs) (wires-in (parts-of bytes))
-      outputs-same k ek =
+      outputs-same : all-below (word-at (now (a .outputs))) (length (now (a .outputs)) / 2) w ≡ all-below (output-of (parts-of bytes)) (sizes-of bytes .outputs) (wires-in (parts-of bytes))
+      outputs-same =
           let l : length (now (a .outputs)) ≡ 2 * a .sizes .outputs = arrays-whole bytes rest s a b .outputs in
           let n : length (now (a .outputs)) / 2 ≡ a .sizes .outputs = omega arith in
-          ap₂ (λ (m v : ℕ). all-below (output-of (parts-in a)) m v) n (ek ∙ wires)
+          ap₂ (λ (m v : ℕ). all-below (output-of (parts-in a)) m v) n wires
           ∙ ap (λ (p : Parts). all-below (output-of p) (p .sizes .outputs) (wires-in p)) same
 
-      pub outputs-stopped : (k : ℕ) → k ≡ w → false ≡ all-below (word-at (now (a .outputs))) (length (now (a .outputs)) / 2) k → circuit-refusal bytes ≡ Some (NotMade (s .gates))
-      outputs-stopped k ek e =
-          outputs-fail bytes long limits full (gates-same ∙ gates) (sym (e ∙ outputs-same k ek))
+      pub outputs-stopped : false ≡ all-below (word-at (now (a .outputs))) (length (now (a .outputs)) / 2) w → circuit-refusal bytes ≡ Some (NotMade (s .gates))
+      outputs-stopped e =
+          outputs-fail bytes long limits full (gates-same ∙ gates) (sym (e ∙ outputs-same))
           ∙ ap (λ (t : Sizes). Some (NotMade (t .gates))) (sym es)
 
-      pub read-passes : (k : ℕ) → k ≡ w → true ≡ all-below (word-at (now (a .outputs))) (length (now (a .outputs)) / 2) k → w ≤ most-wires → Passed bytes (parts-in a) w
-      read-passes k ek e few =
+      pub read-passes : true ≡ all-below (word-at (now (a .outputs))) (length (now (a .outputs)) / 2) w → w ≤ most-wires → Passed bytes (parts-in a) w
+      read-passes e few =
           let i = within-inputs s ok in
           let q = within-gates s ok in
           let z = b .sizes in
           record {
-            passes = circuit-passes bytes long limits full (gates-same ∙ gates) (sym (e ∙ outputs-same k ek));
+            passes = circuit-passes bytes long limits full (gates-same ∙ gates) (sym (e ∙ outputs-same));
             parts = same;
             whole = arrays-whole bytes rest s a b;
             count = wires;

@@ -1,18 +1,18 @@
 -- What a gate of the code tells of the circuit. Assumes nothing.
-use mathlib.Core.Path.{_≡_, refl, sym, ap, _∙_}
-use mathlib.Core.Bool.{Bool, true, false, cond, _||_}
+use mathlib.Core.Path.{_≡_, sym, ap, _∙_}
+use mathlib.Core.Bool.{Bool, true, false}
 use mathlib.Core.List.{List}
-use Prim.Native.Nat.{ℕ, suc, _+_, _*_, _≤_, _<_, _^_, _/_}
+use Prim.Native.Nat.{ℕ, suc, _+_, _*_, _≤_, _^_, _/_}
 use native.Mathlib.Omega.{arith}
-use lib.Dec.{ltb, leb}
+use lib.Dec.{leb}
 use lib.ListN.{length}
 use denote.Ref.{now}
 use Rattle.std.proofs.shelf.Ways.{tells}
 use Rattle.std.proofs.shelf.Tests.{lt-leb, le-leb}
 use Rattle.circuit.specs.Words.{word-at, part, all-below}
-use Rattle.circuit.specs.Forms.{is-table, fan-in, fan-out, reads, makes}
+use Rattle.circuit.specs.Forms.{is-table, fan-in, reads, makes}
 use Rattle.circuit.specs.Parts.{Parts}
-use Rattle.circuit.specs.Gates.{form-of, place-of, operand-of, row-of, rows-from, rows-fit, made-before}
+use Rattle.circuit.specs.Gates.{form-of, place-of, operand-of, row-of, rows-from, in-order, rows-fit, made-before}
 use Rattle.circuit.specs.Lent.{GateAt, new-in, operands-in, narrow}
 use Rattle.circuit.specs.declared.gate.Gate.{Gate}
 use Rattle.circuit.specs.declared.gate.Gate.the-variants.{Xor, And, Table}
@@ -38,14 +38,6 @@ module _ (c : Parts) (g : ℕ) where
   gate-makes (And operands) e = let f : leb (form-of c g) 1 ≡ true = le-leb (form-of c g) 1 (omega arith) in rw f
   gate-makes (Table n m operands rows) e = let f : leb (form-of c g) 1 ≡ false = table-high (form-of c g) (e .0) in rw f (e .2)
 
-  pub gate-few : (gate : Gate) → GateAt c g gate → new-in gate ≤ 16
-  gate-few (Xor operands) e = omega arith
-  gate-few (And operands) e = omega arith
-  gate-few (Table n m operands rows) e =
-      let t : is-table (form-of c g) ≡ true = e .0 in
-      let h : fan-out (form-of c g) ≤ 16 = grind (arith, tells) in
-      omega arith
-
   pub gate-order : (gate : Gate) (made : ℕ) → GateAt c g gate → all-below (word-at (operands-in gate)) (length (operands-in gate) / 2) made ≡ all-below (operand-of c g) (reads (form-of c g)) made
   gate-order (Xor operands) made e =
       let f : leb (form-of c g) 1 ≡ true = le-leb (form-of c g) 1 (omega arith) in
@@ -57,6 +49,10 @@ module _ (c : Parts) (g : ℕ) where
       let f : leb (form-of c g) 1 ≡ false = table-high (form-of c g) (e .0) in
       let w = words-of (now operands) (c .operands) (place-of c g) n made (e .3) (e .4) in
       rw f (w ∙ ap (λ (k : ℕ). all-below (operand-of c g) k made) (e .1))
+
+  -- what the code's test of the operands tells
+  pub gate-ordered : (gate : Gate) (made : ℕ) (b : Bool) → GateAt c g gate → made ≡ made-before c g → b ≡ all-below (word-at (operands-in gate)) (length (operands-in gate) / 2) made → in-order c g ≡ b
+  gate-ordered gate made b e before t = sym (t ∙ gate-order gate made e ∙ ap (λ (m : ℕ). all-below (operand-of c g) (reads (form-of c g)) m) before)
 
   pub gate-rows : (gate : Gate) → GateAt c g gate → narrow gate ≡ rows-fit c g
   gate-rows (Xor operands) e = let f : leb (form-of c g) 1 ≡ true = le-leb (form-of c g) 1 (omega arith) in rw f

@@ -1,36 +1,31 @@
 -- Plain evaluation, gate by gate. Assumes nothing.
 use mathlib.Core.Path.{_≡_, refl, sym, ap, ap₂, subst, _∙_}
 use mathlib.Core.Logic.{inl, inr}
-use mathlib.Core.Bool.{Bool, true, false, cond, _&&_}
+use mathlib.Core.Bool.{Bool, true, false, _&&_}
 use mathlib.Core.List.{List}
 use Prim.Native.Nat.{ℕ, zero, suc, _+_, _-_, _*_, _≤_, _<_, _^_, _/_}
 use native.Mathlib.Omega.{arith}
 use native.Mathlib.Nat.{pow-succ'}
 use lib.Dec.{ltb, leb, eqb}
-use lib.ListN.{length, getD}
+use lib.ListN.{getD}
 use denote.Ref.{now}
-use Rattle.std.specs.declared.option.Option.the-variants.{None}
-use Rattle.std.proofs.shelf.Tests.{cases-lt, cases-order, lt-ltb, le-ltb, eq-eqb, ne-eqb, le-leb, cases-bool}
+use Rattle.std.proofs.shelf.Tests.{cases-order, lt-ltb, le-ltb, eq-eqb, ne-eqb, le-leb, cases-bool}
 use Rattle.std.proofs.shelf.Ways.{tells}
 use Rattle.labels.specs.Kind.{differs}
 use Rattle.labels.specs.Numbers.{bit, digit, number}
-use Rattle.circuit.specs.Words.{word-at, part, all-below}
+use Rattle.circuit.specs.Words.{word-at}
 use Rattle.circuit.specs.Forms.{known, is-table, fan-in, fan-out, reads, makes}
 use Rattle.circuit.specs.Parts.{Parts}
-use Rattle.circuit.specs.Gates.{form-of, place-of, operand-of, row-of, rows-from, output-of, made-before, wires-in, in-order}
+use Rattle.circuit.specs.Gates.{form-of, place-of, operand-of, row-of, rows-from, made-before, wires-in, in-order}
 use Rattle.circuit.specs.Lent.{GateAt, Shaped, new-in, new-bit, operands-in}
 use Rattle.circuit.specs.Wires.{Grown, Filled, wire-after}
-use Rattle.circuit.specs.Plain.{bit-in, gate-bit, plain-rule, plain-bit, PlainRun}
+use Rattle.circuit.specs.Plain.{gate-bit, plain-rule, plain-bit}
 use Rattle.circuit.specs.declared.gate.Gate.{Gate}
 use Rattle.circuit.specs.declared.gate.Gate.the-variants.{Xor, And, Table}
 use Rattle.circuit.proofs.Bounds.{each-below}
 use Rattle.circuit.proofs.Stretches.{word-of-part}
-use Rattle.circuit.proofs.GateParts.{table-high, gate-makes, gate-few}
+use Rattle.circuit.proofs.GateParts.{table-high}
 use Rattle.circuit.proofs.Growth.{filled-grown}
-
-digit-most : (b : Bool) → digit b ≤ 1
-digit-most true = omega arith
-digit-most false = omega arith
 
 pub number-below : (n : ℕ) (x : ℕ → Bool) → number n x < 2 ^ n
 number-below zero x = omega arith

@@ -1,18 +1,18 @@
 -- An accepted evaluation is a plain run. Assumes nothing.
-use mathlib.Core.Path.{_≡_, refl, sym, ap, subst, _∙_}
-use mathlib.Core.Bool.{Bool, true, false}
+use mathlib.Core.Path.{_≡_, sym, ap, subst, _∙_}
+use mathlib.Core.Bool.{Bool, false}
 use mathlib.Core.List.{List}
-use Prim.Native.Nat.{ℕ, suc, _+_, _<_, _≤_}
+use Prim.Native.Nat.{ℕ, suc, _+_, _<_}
 use native.Mathlib.Omega.{arith}
 use lib.ListN.{length, getD}
 use Rattle.std.specs.declared.option.Option.the-variants.{None}
 use Rattle.labels.specs.Numbers.{digit}
-use Rattle.circuit.specs.Forms.{known, makes, reads}
-use Rattle.circuit.specs.Parts.{Parts, parts-of}
-use Rattle.circuit.specs.Gates.{form-of, operand-of, output-of, made-before, wires-in, in-order}
+use Rattle.circuit.specs.Forms.{makes, reads}
+use Rattle.circuit.specs.Parts.{Parts}
+use Rattle.circuit.specs.Gates.{form-of, operand-of, output-of, made-before, wires-in}
 use Rattle.circuit.specs.Passed.{Passed}
 use Rattle.circuit.specs.Wires.{Filled}
-use Rattle.circuit.specs.Plain.{bit-in, gate-bit, plain-bit, plain-refusal, PlainRun, Evaluated}
+use Rattle.circuit.specs.Plain.{bit-in, plain-bit, plain-refusal, PlainRun, Evaluated}
 use Rattle.circuit.proofs.Bounds.{each-below}
 use Rattle.circuit.proofs.Circuits.{form-known, each-in-order, outputs-pass}
 use Rattle.circuit.proofs.Plains.{gate-same, bits-run, bits-given, made-within}

@@ -1,15 +1,14 @@
 -- When a gate's form and places pass. Assumes nothing.
-use mathlib.Core.Path.{_≡_, refl, sym, ap, _∙_}
-use mathlib.Core.Bool.{Bool, true, false, not, cond, _||_, _&&_}
+use mathlib.Core.Path.{_≡_, sym, ap, _∙_}
+use mathlib.Core.Bool.{true, false}
 use Prim.Native.Nat.{ℕ, _+_, _*_, _≤_, _<_, _^_, _/_}
 use native.Mathlib.Omega.{arith}
-use lib.Dec.{ltb, leb}
 use lib.ListN.{length}
 use Rattle.std.specs.declared.option.Option.the-variants.{Some, None}
 use Rattle.std.proofs.shelf.Ways.{tells}
 use Rattle.std.proofs.shelf.Tests.{cases-bool}
 use mathlib.Core.Logic.{inl, inr}
-use Rattle.circuit.specs.Forms.{known, is-table, fan-in, operand-words}
+use Rattle.circuit.specs.Forms.{known, is-table, fan-in}
 use Rattle.circuit.specs.Parts.{Parts}
 use Rattle.circuit.specs.Gates.{form-of, place-of, rows-from, past-arrays}
 use Rattle.circuit.specs.Check.{shape-refusal}

@@ -1,5 +1,5 @@
 -- What check answers of any bytes: the first refusal, or the sizes, wires and material. Assumes nothing.
-use mathlib.Core.Bool.{Bool, not, cond}
+use mathlib.Core.Bool.{not}
 use mathlib.Core.List.{List, [], _∷_}
 use Prim.Native.Nat.{ℕ, zero, suc, _*_}
 use lib.Dec.{ltb, eqb}

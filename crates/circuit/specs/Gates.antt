@@ -1,5 +1,5 @@
 -- The gates of a circuit: their operands and rows, and the wires made before them. Assumes nothing.
-use mathlib.Core.Bool.{Bool, true, false, cond, not, _&&_, _||_}
+use mathlib.Core.Bool.{Bool, not, _&&_, _||_}
 use Prim.Native.Nat.{ℕ, _+_, _^_}
 use lib.Dec.{leb, ltb}
 use Rattle.circuit.specs.Words.{word-at, all-below, sum-below}

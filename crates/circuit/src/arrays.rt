@@ -1,11 +1,11 @@
 // The arrays of a circuit, behind its header.
 ghost use mathlib.Core.Path.{_≡_};
-ghost use Prim.Native.Nat.{ℕ, _+_, _*_, _<_, _≤_};
+ghost use Prim.Native.Nat.{_+_, _*_, _<_, _≤_};
 ghost use lib.ListN.{length};
 ghost use Rattle.std.specs.Results.{Cases};
 ghost use Rattle.std.specs.Options.{Cases as BySome};
 ghost use Rattle.circuit.specs.Words.{part};
-ghost use Rattle.circuit.specs.Lent.{parts-in, Behind, Whole};
+ghost use Rattle.circuit.specs.Lent.{Behind};
 use crate::refusal::Refusal;
 use crate::sizes::Sizes;
 

@@ -1,10 +1,11 @@
 // Checking a circuit.
 ghost use mathlib.Core.Path.{_≡_};
 ghost use mathlib.Core.Bool.{true};
-ghost use Prim.Native.Nat.{ℕ, suc, _+_, _*_, _<_, _≤_};
+ghost use Prim.Native.Nat.{ℕ, suc, _/_, _<_, _≤_};
 ghost use lib.ListN.{length};
 ghost use Rattle.std.specs.Results.{Cases};
 ghost use Rattle.std.specs.declared.option.Option.the-variants.{Some, None};
+ghost use Rattle.circuit.specs.Words.{word-at, all-below};
 ghost use Rattle.circuit.specs.Forms.{known};
 ghost use Rattle.circuit.specs.Gates.{form-of, made-before, wires-in};
 ghost use Rattle.circuit.specs.Check.{gate-refusal, gates-refusal, circuit-refusal, bits-in, bytes-in, checked};
@@ -42,7 +43,7 @@ fn check_gate(a: Arrays, g: u16, made: u16) -> Result<u16, Refusal>
     if after > 1024 {
         return Err(Refusal::TooManyWires(g));
     }
-    if !words_below(gate.operands(), u32::from(made)) {
+    if !gate.reads_made(made) {
         return Err(Refusal::NotMade(g));
     }
     if !gate.rows_fit() {
@@ -64,6 +65,13 @@ fn check_gates(a: Arrays) -> Result<u16, Refusal>
     Ok(made)
 }
 
+// Whether each output is one of the first `made` wires.
+fn outputs_made(outputs: &[u8], made: u16) -> bool
+    ensures { λ r. ⌜ r ≡ all-below (word-at (now (outputs .entry))) (length (now (outputs .entry)) / 2) made ⌝ }
+{
+    words_below(outputs, u32::from(made))
+}
+
 // Reads any bytes as a circuit.
 pub fn read(circuit: &[u8]) -> Result<Circuit<'_>, Refusal>
     ensures { λ r. ⌜ Cases r (λ c. Passed (now (circuit .entry)) (parts-in (c .arrays)) (c .wires)) (λ why. circuit-refusal (now (circuit .entry)) ≡ Some why) ⌝ }
@@ -74,7 +82,7 @@ pub fn read(circuit: &[u8]) -> Result<Circuit<'_>, Refusal>
     }
     let arrays = cut(sizes, rest)?;
     let wires = check_gates(arrays)?;
-    if !words_below(arrays.outputs, u32::from(wires)) {
+    if !outputs_made(arrays.outputs, wires) {
         return Err(Refusal::NotMade(sizes.gates));
     }
     Ok(Circuit { arrays, wires })

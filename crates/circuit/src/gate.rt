@@ -1,14 +1,15 @@
 // The gates of a circuit.
 ghost use mathlib.Core.Path.{_≡_};
-ghost use Prim.Native.Nat.{ℕ, _+_, _*_, _<_, _≤_, _^_};
+ghost use Prim.Native.Nat.{_/_, _<_, _≤_, _^_};
 ghost use lib.ListN.{length};
 ghost use Rattle.std.specs.Results.{Cases};
 ghost use Rattle.std.specs.declared.option.Option.the-variants.{Some, None};
+ghost use Rattle.circuit.specs.Words.{word-at, all-below};
 ghost use Rattle.circuit.specs.Check.{shape-refusal};
 ghost use Rattle.circuit.specs.Forms.{is-table};
 ghost use Rattle.circuit.specs.Gates.{form-of, place-of};
 ghost use Rattle.circuit.specs.Lent.{parts-in, Whole, GateAt, new-in, operands-in, narrow};
-ghost use mathlib.Core.Bool.{true, false};
+ghost use mathlib.Core.Bool.{true};
 use crate::arrays::Arrays;
 use crate::arrays::stretch;
 use crate::refusal::Refusal;
@@ -128,6 +129,13 @@ impl<'a> Gate<'a> {
                 rows: _,
             } => operands,
         }
+    }
+
+    // Whether each wire that it reads is one of the first `made`.
+    pub fn reads_made(self, made: u16) -> bool
+        ensures { λ r. ⌜ r ≡ all-below (word-at (operands-in (self .entry))) (length (operands-in (self .entry)) / 2) made ⌝ }
+    {
+        words_below(self.operands(), u32::from(made))
     }
 
     // Whether each row is below 2^m.

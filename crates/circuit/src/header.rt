@@ -1,9 +1,8 @@
 // The header: five sizes, and the arrays behind them.
 ghost use mathlib.Core.Path.{_≡_};
-ghost use Prim.Native.Nat.{ℕ, _<_, _≤_};
+ghost use Prim.Native.Nat.{_<_, _≤_};
 ghost use lib.ListN.{length, drop};
 ghost use Rattle.std.specs.Results.{Cases};
-ghost use Rattle.circuit.specs.Refusals.{number-of};
 ghost use Rattle.circuit.specs.Header.{sizes-of, within};
 use crate::refusal::Refusal;
 use crate::sizes::Sizes;

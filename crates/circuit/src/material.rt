@@ -1,10 +1,18 @@
 // How much material a gate has.
 ghost use mathlib.Core.Path.{_≡_};
 ghost use mathlib.Core.Bool.{true};
-ghost use Prim.Native.Nat.{ℕ, _+_, _*_, _<_, _≤_, _^_};
+ghost use Prim.Native.Nat.{_+_, _-_, _*_, _≤_, _^_};
 ghost use Rattle.circuit.specs.Forms.{known};
 ghost use Rattle.circuit.specs.Material.{table-bits, gate-bits};
 use crate::gate::two_to;
+
+// The bits of a table's one-hot rows: a label for each input but the first.
+fn one_hot_bits(kappa: usize, n: u16) -> usize
+    requires { ⌜ kappa ≤ 8 * 4096 ⌝ ∗ ⌜ 1 ≤ n ⌝ ∗ ⌜ n ≤ 8 ⌝ }
+    ensures { λ r. ⌜ r ≡ (n - 1) * kappa ⌝ }
+{
+    (usize::from(n) - 1) * kappa
+}
 
 // A table's bits, for labels of kappa bits.
 fn table_bits(kappa: usize, n: u16, m: u16) -> usize
@@ -14,7 +22,7 @@ fn table_bits(kappa: usize, n: u16, m: u16) -> usize
     let rows = two_to(n) as usize;
     let inputs = usize::from(n);
     let outputs = usize::from(m);
-    (inputs - 1) * kappa + inputs * outputs * kappa + rows * outputs
+    one_hot_bits(kappa, n) + inputs * outputs * kappa + rows * outputs
 }
 
 // A gate's bits.

@@ -65,8 +65,8 @@ fn take_inputs(wires: &mut Wires<bool>, bits: &[u8])
     ensures filled { λ _. ⌜ Filled (length (now (bits .entry))) (bit-in (now (bits .entry))) (now (now (wires .entry) .values)) (now (now (wires .exit) .values)) ⌝ }
     ensures same { λ _. ⌜ name (now (wires .exit) .values) ≡ name (now (wires .entry) .values) ⌝ }
 {
-    for k in 0..bits.len() {
-        wires.push(bits[k] == 1);
+    for i in 0..bits.len() {
+        wires.push(bits[i] == 1);
     }
 }
 
@@ -76,6 +76,16 @@ fn weighed(bit: bool, weight: usize) -> usize
     ensures within { λ r. ⌜ r ≤ weight ⌝ }
 {
     if bit { weight } else { 0 }
+}
+
+// The bit on the wire of operand j.
+fn operand_bit(wires: &Wires<bool>, operands: &[u8], j: usize) -> bool
+    requires there { ⌜ 2 * j + 1 < length (now operands) ⌝ }
+    requires order { ⌜ word-at (now operands) j < now wires .made ⌝ }
+    requires room { ⌜ now wires .made ≤ length (now (now wires .values)) ⌝ }
+    ensures { λ r. ⌜ r ≡ getD (now (now (wires .entry) .values)) (word-at (now (operands .entry)) j) false ⌝ }
+{
+    wires.read(word_at(operands, j))
 }
 
 // The number whose bits stand on the wires of the operands, the first lowest.
@@ -89,10 +99,18 @@ fn row_number(wires: &Wires<bool>, operands: &[u8]) -> usize
     let mut row = 0;
     let mut weight = 1;
     for j in 0..operands.len() / 2 {
-        row += weighed(wires.read(word_at(operands, j)), weight);
+        row += weighed(operand_bit(wires, operands, j), weight);
         weight *= 2;
     }
     row
+}
+
+// Bit j of a row.
+fn row_bit(row: u16, j: usize) -> bool
+    requires { ⌜ j < 16 ⌝ }
+    ensures { λ r. ⌜ r ≡ bit-of j row ⌝ }
+{
+    (row >> j) % 2 == 1
 }
 
 // Writes the low bits of a row, the lowest first.
@@ -101,7 +119,7 @@ fn write_bits(out: &mut [bool], row: u16)
     ensures { λ _. ⌜ ((j : ℕ) → j < length (now (out .entry)) → getD (now (out .exit)) j false ≡ bit-of j row) ⌝ }
 {
     for j in 0..out.len() {
-        out[j] = (row >> j) % 2 == 1;
+        out[j] = row_bit(row, j);
     }
 }
 
@@ -116,13 +134,13 @@ fn plain_gate(wires: &mut Wires<bool>, gate: Gate)
 {
     match gate {
         Gate::Xor { operands } => {
-            let a = wires.read(word_at(operands, 0));
-            let b = wires.read(word_at(operands, 1));
+            let a = operand_bit(wires, operands, 0);
+            let b = operand_bit(wires, operands, 1);
             wires.push(a ^ b);
         }
         Gate::And { operands } => {
-            let a = wires.read(word_at(operands, 0));
-            let b = wires.read(word_at(operands, 1));
+            let a = operand_bit(wires, operands, 0);
+            let b = operand_bit(wires, operands, 1);
             wires.push(a & b);
         }
         Gate::Table {

@@ -1,6 +1,6 @@
 // A store of wires over lent memory: made in order, each read only once made. It serves bits and labels of any kind.
 ghost use mathlib.Core.Path.{_≡_};
-ghost use Prim.Native.Nat.{ℕ, _+_, _<_, _≤_};
+ghost use Prim.Native.Nat.{_+_, _<_, _≤_};
 ghost use lib.ListN.{length, getD};
 ghost use denote.Ref.{name};
 ghost use Rattle.circuit.specs.Wires.{Grown};

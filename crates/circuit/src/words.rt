@@ -1,6 +1,6 @@
 // Sixteen-bit words in bytes, the lower byte first.
 ghost use mathlib.Core.Path.{_≡_};
-ghost use Prim.Native.Nat.{ℕ, _+_, _*_, _<_, _≤_, _/_};
+ghost use Prim.Native.Nat.{_+_, _*_, _<_, _/_};
 ghost use lib.ListN.{length};
 ghost use Rattle.circuit.specs.Words.{word-at, all-below};
 

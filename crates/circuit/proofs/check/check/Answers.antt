@@ -1,4 +1,3 @@
-use borrow.Author.Needs.{needs}
 use Rattle.circuit.proofs.Circuits.{form-known}
 use Rattle.circuit.proofs.check.check.Needs as need
 

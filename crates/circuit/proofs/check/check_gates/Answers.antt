@@ -1,9 +1,6 @@
-use borrow.Author.Needs.{needs}
 use native.Mathlib.Omega.{arith}
 use native.Mathlib.Numerals.{add-one}
-use mathlib.Core.Path.{_≡_, sym, _∙_, ap}
 use Rattle.std.proofs.shelf.Results.{err-from-errBy}
-use Rattle.circuit.specs.Parts.{Parts}
 use Rattle.circuit.specs.Lent.{parts-in}
 use Rattle.circuit.proofs.Checks.{gates-more, gates-stop}
 use Rattle.circuit.proofs.check.check_gates.Needs as need

@@ -1,7 +1,7 @@
 use native.Mathlib.Omega.{arith}
 use native.Mathlib.Numerals.{add-one}
-use mathlib.Core.Path.{_≡_, sym, _∙_, ap}
-use Prim.Native.Nat.{ℕ, _+_, _*_, _/_}
+use mathlib.Core.Path.{_≡_, _∙_}
+use Prim.Native.Nat.{_*_}
 use Rattle.circuit.specs.Lent.{parts-in}
 use Rattle.circuit.specs.Gates.{form-of}
 use Rattle.circuit.specs.Material.{gate-bits}

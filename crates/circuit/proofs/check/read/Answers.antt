@@ -1,4 +1,4 @@
-use mathlib.Core.Path.{_≡_, sym, _∙_, ap, subst}
+use mathlib.Core.Path.{sym, _∙_, ap, subst}
 use Prim.Native.Nat.{_≤_}
 use Rattle.std.proofs.shelf.Results.{err-from-errBy}
 use Rattle.circuit.specs.Header.{within}
@@ -40,16 +40,16 @@ returns-in-Break-wires c =
     let b = c .in-Continue-arrays .ensures tt in
     rw (p .1, p .2) (gates-stopped (c .args .circuit .now) _ _ (e .0) (e .1) (e .2) (sym (c .if-not-within-limits .ensures tt)) (c .in-Continue-arrays .arrays) b _ (c .in-Break-wires .ensures tt))
 
-pub returns-then-not-words-below : need.returns-then-not-words-below
-returns-then-not-words-below c =
+pub returns-then-not-outputs-made : need.returns-then-not-outputs-made
+returns-then-not-outputs-made c =
     let e = c .in-Continue-sizes .ensures tt in
     let b = c .in-Continue-arrays .ensures tt in
     let w = c .in-Continue-wires .ensures tt in
-    outputs-stopped (c .args .circuit .now) _ _ (e .0) (e .1) (e .2) (sym (c .if-not-within-limits .ensures tt)) (c .in-Continue-arrays .arrays) b (c .in-Continue-wires .wires) (w .0) (w .1) _ (c .from .ensures) (c .if-not-words-below .ensures tt)
+    outputs-stopped (c .args .circuit .now) _ _ (e .0) (e .1) (e .2) (sym (c .if-not-within-limits .ensures tt)) (c .in-Continue-arrays .arrays) b (c .in-Continue-wires .wires) (w .0) (w .1) (c .if-not-outputs-made .ensures tt)
 
 pub returns : need.returns
 returns c =
     let e = c .in-Continue-sizes .ensures tt in
     let b = c .in-Continue-arrays .ensures tt in
     let w = c .in-Continue-wires .ensures tt in
-    read-passes (c .args .circuit .now) _ _ (e .0) (e .1) (e .2) (sym (c .if-not-within-limits .ensures tt)) (c .in-Continue-arrays .arrays) b (c .in-Continue-wires .wires) (w .0) (w .1) _ (c .from .ensures) (c .if-not-words-below .ensures tt) (w .2)
+    read-passes (c .args .circuit .now) _ _ (e .0) (e .1) (e .2) (sym (c .if-not-within-limits .ensures tt)) (c .in-Continue-arrays .arrays) b (c .in-Continue-wires .wires) (w .0) (w .1) (c .if-not-outputs-made .ensures tt) (w .2)

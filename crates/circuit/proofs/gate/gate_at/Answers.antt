@@ -1,6 +1,6 @@
 use borrow.Author.Needs.{needs}
 use native.Mathlib.Omega.{arith}
-use mathlib.Core.Path.{_≡_, sym, _∙_, ap}
+use mathlib.Core.Path.{_≡_, _∙_, ap}
 use Rattle.circuit.specs.Lent.{parts-in}
 use Rattle.circuit.specs.Gates.{form-of, place-of}
 use lib.ListN.{length}

@@ -2,12 +2,12 @@ use borrow.Author.Needs.{needs}
 use native.Mathlib.Omega.{arith}
 use mathlib.Core.Path.{_≡_, sym, _∙_, ap}
 use mathlib.Core.List.{List}
-use Prim.Native.Nat.{ℕ, _+_, _-_, _*_, _/_, _^_, _≤_}
+use Prim.Native.Nat.{ℕ, _+_, _-_, _*_, _/_, _≤_}
 use lib.ListN.{length, take}
 use Rattle.circuit.specs.Lent.{parts-in}
 use Rattle.circuit.specs.Words.{part, word-at}
 use Rattle.circuit.specs.Parts.{Parts}
-use Rattle.circuit.specs.Gates.{form-of, place-of, rows-from, operand-of}
+use Rattle.circuit.specs.Gates.{form-of, place-of, rows-from}
 use Rattle.std.proofs.shelf.Lists.{length-take-le}
 use Rattle.circuit.proofs.Shapes.{table-unknown, operands-past, rows-past, table-fits, is-table-form}
 use Rattle.circuit.proofs.Stretches.{word-of-part, part-front, length-part}

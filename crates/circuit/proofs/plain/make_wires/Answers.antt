@@ -1,22 +1,18 @@
 use native.Mathlib.Omega.{arith}
 use native.Mathlib.Numerals.{add-one}
 use mathlib.Core.Path.{_≡_, refl, sym, ap, subst, _∙_}
-use mathlib.Core.Bool.{Bool, true}
-use mathlib.Core.List.{List}
-use Prim.Native.Nat.{ℕ, suc, _+_, _<_, _≤_}
-use lib.ListN.{length}
+use mathlib.Core.Bool.{Bool}
+use Prim.Native.Nat.{ℕ, suc, _<_}
 use Rattle.std.specs.declared.option.Option.the-variants.{None}
-use Rattle.circuit.specs.Words.{word-at, all-below}
 use Rattle.circuit.specs.Parts.{Parts}
-use Rattle.circuit.specs.Gates.{made-before, wires-in, in-order, operand-of, form-of}
-use Rattle.circuit.specs.Forms.{reads}
+use Rattle.circuit.specs.Gates.{made-before, wires-in}
 use Rattle.circuit.specs.Check.{gate-refusal}
 use Rattle.circuit.specs.Lent.{parts-in}
 use Rattle.circuit.specs.Plain.{bit-in, plain-rule, plain-bit}
 use Rattle.circuit.specs.Wires.{Filled, wire-after}
 use Rattle.circuit.proofs.Checks.{each-passes, gate-shape, gate-in-order}
 use Rattle.circuit.proofs.Shapes.{shape-known}
-use Rattle.circuit.proofs.GateParts.{gate-order, made-after}
+use Rattle.circuit.proofs.GateParts.{gate-ordered, made-after}
 use Rattle.circuit.proofs.Growth.{filled-on}
 use Rattle.circuit.proofs.Plains.{gate-shaped, plain-more, made-within}
 use Rattle.circuit.proofs.plain.make_wires.Needs as need
@@ -39,7 +35,7 @@ plain-gate-requires c κs =
     let long = i .1 .long ∙ c .take-inputs .ensures .filled .long in
     record {
       shaped = gate-shaped p g (c .passed-gate-gate .result) (c .passed-gate-gate .ensures);
-      order = gate-order p g (c .passed-gate-gate .result) _ (c .passed-gate-gate .ensures) ∙ ap (λ (m : ℕ). all-below (operand-of p g) (reads (form-of p g)) m) (i .0) ∙ gate-in-order p g pass;
+      order = sym (gate-ordered p g (c .passed-gate-gate .result) _ _ (c .passed-gate-gate .ensures) (i .0) refl) ∙ gate-in-order p g pass;
       room = omega arith;
     }
 

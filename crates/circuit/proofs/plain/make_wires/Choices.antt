@@ -1,6 +1,4 @@
 use mathlib.Core.Path.{_≡_}
-use Prim.Native.Nat.{_≤_}
-use lib.ListN.{length}
 use denote.Ref.{now, name}
 use Rattle.circuit.specs.Gates.{made-before}
 use Rattle.circuit.specs.Lent.{parts-in}

@@ -1,17 +1,6 @@
 use borrow.Author.Needs.{needs}
 use native.Mathlib.Omega.{arith}
-use mathlib.Core.Path.{_≡_, refl, sym, ap, subst, _∙_}
-use mathlib.Core.Bool.{Bool, true, false}
-use mathlib.Core.List.{List}
-use Prim.Native.Nat.{ℕ, _<_, _≤_}
-use lib.ListN.{length, getD}
-use Rattle.std.specs.declared.option.Option.the-variants.{None}
-use Rattle.labels.specs.Numbers.{digit}
-use Rattle.circuit.specs.Parts.{Parts, parts-of}
-use Rattle.circuit.specs.Gates.{wires-in, output-of}
-use Rattle.circuit.specs.Passed.{Passed}
-use Rattle.circuit.specs.Wires.{Filled}
-use Rattle.circuit.specs.Plain.{bit-in, plain-bit, plain-refusal, Evaluated}
+use lib.ListN.{length}
 use Rattle.circuit.proofs.Circuits.{gates-pass, outputs-pass}
 use Rattle.circuit.proofs.Runs.{evaluated}
 use Rattle.circuit.proofs.plain.plain.Needs as need

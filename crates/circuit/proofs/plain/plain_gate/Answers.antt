@@ -1,17 +1,15 @@
 use borrow.Author.Needs.{needs}
 use native.Mathlib.Omega.{arith}
-use mathlib.Core.Path.{_≡_, refl, sym, ap, subst, _∙_}
+use mathlib.Core.Path.{_≡_, sym, ap, subst, _∙_}
 use mathlib.Core.Bool.{Bool, false}
 use mathlib.Core.List.{List}
-use Prim.Native.Nat.{ℕ, _+_, _-_, _*_, _/_, _<_}
+use Prim.Native.Nat.{ℕ, _+_, _-_, _/_}
 use lib.ListN.{length, getD, take, drop}
 use denote.Ref.{RefT, now}
-use borrow.Rule.Slice.PartMut.{putMid}
 use Rattle.std.proofs.shelf.Lists.{length-drop, length-take-le}
 use Rattle.labels.specs.Numbers.{bit, number}
 use Rattle.circuit.specs.Words.{word-at}
 use Rattle.circuit.specs.Lent.{new-in, new-bit, operands-in, Shaped}
-use Rattle.circuit.specs.Wires.{Grown}
 use Rattle.circuit.specs.declared.gate.Gate.{Gate}
 use Rattle.circuit.specs.declared.gate.Gate.the-variants.{Table}
 use Rattle.circuit.proofs.Growth.{put-grown}

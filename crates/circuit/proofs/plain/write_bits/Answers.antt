@@ -10,4 +10,4 @@ pub loop-j-again : need.loop-j-again
 loop-j-again c =
     below-more _ _
     (λ k h. let ne : k ≢ c .loop-j .j = omega arith in rw getD-set-other (c .loop-j .inv k h))
-    (let lt : c .loop-j .j < length (c .loop-j .out) = omega arith in rw getD-set-same)
+    (let lt : c .loop-j .j < length (c .loop-j .out) = omega arith in rw getD-set-same (c .row-bit .ensures))

@@ -1,4 +1,4 @@
 // What the programs print, as library functions from bytes to text.
 pub mod dividend;
-pub mod lines;
+mod lines;
 pub mod worksheet;

@@ -16,7 +16,9 @@ DASHED = re.compile(r"^[A-Za-z][\w'₀-₉→]*(-[\w'₀-₉→]+)+$")
 WORDS = r"(?:(?:pub|abbrev|unfoldable|foldable|data|record|opaque|ruleset)\s+)*"
 # a signature, a field or a constructor at the head of a line; and a record, a data type or a ruleset
 HEAD = re.compile(r"^\s*(?:\|\s*)?" + WORDS + r"([^\s(){},]+)(?:\s+[({].*?)?\s*:(?:\s|$)(.*)$")
-BLOCK = re.compile(r"^\s*" + WORDS.replace("*", "+") + r"([^\s(){},]+)")
+BLOCK = re.compile(r"^\s*(?:pub\s+)?(?:data|record|ruleset)\s+([^\s(){},]+)")
+# what the toolchain asks for, under its own name
+GOAL = re.compile(r"^\s*goal\.")
 IMPORT = re.compile(r"\buse\s+(\S+?)\.\{([^}]*)\}", re.S)
 
 
@@ -45,7 +47,7 @@ def declared(path, text):
     for line in text.split("\n"):
         line = line.split("--")[0]
         m = HEAD.match(line)
-        if m and not m.group(2).strip().startswith("goal."):
+        if m and not GOAL.match(m.group(2)):
             yield m.group(1)
         m = BLOCK.match(line)
         if m:

@@ -3,8 +3,8 @@ use Rattle.sha256.specs.Compression.{compressed}
 use Rattle.sha256.proofs.Blocks.{hashed_more}
 use Rattle.sha256.proofs.absorb.Goals as goal
 
-pub loop_i_preserved : goal.loop_i_preserved
-loop_i_preserved c =
+pub loop-i-preserved : goal.loop-i-preserved
+loop-i-preserved c =
     let i = c.loop-i.i in
     let bytes = c.args.bytes.now in
     let n : 64 * i + 64 - 64 * i ≡ 64 = omega arith in

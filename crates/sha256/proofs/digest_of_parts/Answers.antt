@@ -7,8 +7,8 @@ use Rattle.sha256.proofs.Tail.{blank_front, length_front}
 use Rattle.sha256.proofs.Blocks.{digest_split}
 use Rattle.sha256.proofs.digest_of_parts.Goals as goal
 
-pub finish_requires : goal.finish_requires
-finish_requires c =
+pub finish-requires : goal.finish-requires
+finish-requires c =
     let end = c.padded-length-end.result in
     let within : end ≤ 128 = omega arith in
     record { short = search rules; room = length_front end within ∙ c.padded-length-end.ensures; zero = blank_front end within }

@@ -4,8 +4,8 @@ use Rattle.aes.specs.Cipher.{rounds, cipher}
 use Rattle.aes.proofs.Turns.{one_more}
 use Rattle.aes.proofs.cipher.rounds_under.Goals as goal
 
-pub loop_r_preserved : goal.loop_r_preserved
-loop_r_preserved c =
+pub loop-r-preserved : goal.loop-r-preserved
+loop-r-preserved c =
     one_more (bytes_of c.args.keys.now.key) (bytes_of c.add-round-key-s.result) c.loop-r.r (omega arith)
     c.loop-r.invariant c.at-in-loop-r.ensures c.full-round-s.ensures
 
@@ -15,6 +15,6 @@ returns c =
     let nine : c.loop-r.r - 1 ≡ 9 = omega arith in
     cc
 
-pub loop_r_init : goal.loop_r_init
+pub loop-r-init : goal.loop-r-init
 unfolding rounds
-loop_r_init c = refl
+loop-r-init c = refl

@@ -3,5 +3,5 @@ use Rattle.aes.specs.Cipher.{rounds}
 use Rattle.aes.specs.Columns.{bytes_of}
 use Rattle.aes.proofs.cipher.rounds_under.Given as goal
 
-abbrev pub invariant_loop_r : goal.invariant_loop_r
-invariant_loop_r l = bytes_of l.s ≡ rounds (bytes_of l.keys.key) (bytes_of l.initial.s) (l.r - 1)
+abbrev pub invariant-loop-r : goal.invariant-loop-r
+invariant-loop-r l = bytes_of l.s ≡ rounds (bytes_of l.keys.key) (bytes_of l.initial.s) (l.r - 1)

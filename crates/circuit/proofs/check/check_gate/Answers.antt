@@ -5,23 +5,23 @@ use Rattle.circuit.proofs.GateParts.{gate_ordered, gate_rows, made_after}
 use Rattle.circuit.proofs.Checks.{too_many, not_made, wide_row, gate_passes}
 use Rattle.circuit.proofs.check.check_gate.Goals as goal
 
-pub returns_then_after_gt1024 : goal.returns_then_after_gt1024
-returns_then_after_gt1024 c =
+pub returns-then-after-gt1024 : goal.returns-then-after-gt1024
+returns-then-after-gt1024 c =
     let p : Parts = parts_in c.args.a in
     let e = c.in-ok-gate.ensures in
     let a = made_after p c.args.g c.in-ok-gate.gate _ _ e.1 c.requires.before c.makes.ensures in
     too_many p c.args.g _ e.0 a c.if-after-gt1024.true
 
-pub returns_then_not_reads_made : goal.returns_then_not_reads_made
-returns_then_not_reads_made c =
+pub returns-then-not-reads-made : goal.returns-then-not-reads-made
+returns-then-not-reads-made c =
     let p : Parts = parts_in c.args.a in
     let e = c.in-ok-gate.ensures in
     let a = made_after p c.args.g c.in-ok-gate.gate _ _ e.1 c.requires.before c.makes.ensures in
     let o = gate_ordered p c.args.g c.in-ok-gate.gate c.args.made _ e.1 c.requires.before c.if-not-reads-made.ensures in
     not_made p c.args.g _ e.0 a (omega arith) o
 
-pub returns_then_not_rows_fit : goal.returns_then_not_rows_fit
-returns_then_not_rows_fit c =
+pub returns-then-not-rows-fit : goal.returns-then-not-rows-fit
+returns-then-not-rows-fit c =
     let p : Parts = parts_in c.args.a in
     let e = c.in-ok-gate.ensures in
     let a = made_after p c.args.g c.in-ok-gate.gate _ _ e.1 c.requires.before c.makes.ensures in

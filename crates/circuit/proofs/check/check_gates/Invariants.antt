@@ -4,5 +4,5 @@ use Rattle.circuit.specs.Gates.{made_before}
 use Rattle.circuit.specs.Check.{gates_refusal}
 use Rattle.circuit.proofs.check.check_gates.Given as goal
 
-abbrev pub invariant_loop_g : goal.invariant_loop_g
-invariant_loop_g l = (gates_refusal (parts_in l.a) l.g ≡ None) × (l.made ≡ made_before (parts_in l.a) l.g) × (l.made ≤ 1024)
+abbrev pub invariant-loop-g : goal.invariant-loop-g
+invariant-loop-g l = (gates_refusal (parts_in l.a) l.g ≡ None) × (l.made ≡ made_before (parts_in l.a) l.g) × (l.made ≤ 1024)

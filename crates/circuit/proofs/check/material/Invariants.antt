@@ -3,8 +3,8 @@ use Rattle.circuit.specs.Lent.{parts_in}
 use Rattle.circuit.specs.Check.{bits_in, bytes_in}
 use Rattle.circuit.proofs.check.material.Given as goal
 
-abbrev pub invariant_loop_g : goal.invariant_loop_g
-invariant_loop_g g l =
+abbrev pub invariant-loop-g : goal.invariant-loop-g
+invariant-loop-g g l =
     (l.bits ≡ bits_in g.L.Label.kind (parts_in l.a) l.g)
     × (l.bytes ≡ bytes_in g.L.Label.kind (parts_in l.a) l.g)
     × (l.bits ≤ l.g * 2 ^ 23)

@@ -20,30 +20,30 @@ from c g f p k i first words ef ep ek ei w e =
     let n : k ≡ form_of c g / 256 = ek ∙ ap (λ (j : ℕ). j / 256) ef in
     e ∙ ap (λ (xs : List ℕ). word_at xs i) w ∙ ap (λ (j : ℕ). word_at (part p (k + 1) c.operands) j) a ∙ m ∙ cc
 
-pub returns_then_not_table_form : goal.returns_then_not_table_form
-returns_then_not_table_form c =
+pub returns-then-not-table-form : goal.returns-then-not-table-form
+returns-then-not-table-form c =
     table_unknown (parts_in c.args.a) c.args.g c.args.form c.args.place c.requires.formed c.requires.placed c.requires.whole c.requires.high (sym c.if-not-table-form.ensures)
 
-pub returns_in_default : goal.returns_in_default
-returns_in_default c =
+pub returns-in-default : goal.returns-in-default
+returns-in-default c =
     operands_past (parts_in c.args.a) c.args.g c.args.form c.args.place c.requires.formed c.requires.placed c.requires.whole c.requires.high (sym c.if-not-table-form.ensures)
     (omega (arith, c.in-default.ensures))
 
-pub word_at_first_requires : goal.word_at_first_requires
-word_at_first_requires c =
+pub word-at-first-requires : goal.word-at-first-requires
+word-at-first-requires c =
     let s = c.in-Some.ensures in
     let l : length c.in-Some.words.now ≡ 2 * (c.args.form / 256 + 1) = long c.in-Some.words.now _ _ _ _ c.from.ensures s.0 s.1 in
     omega arith
 
-pub returns_in_default_stretch : goal.returns_in_default_stretch
-returns_in_default_stretch c =
+pub returns-in-default-stretch : goal.returns-in-default-stretch
+returns-in-default-stretch c =
     let s = c.in-Some.ensures in
     let r = from (parts_in c.args.a) c.args.g c.args.form c.args.place c.from.result c.from-2.result c.word-at-first.result c.in-Some.words.now c.requires.formed c.requires.placed c.from.ensures c.from-2.ensures s.1 c.word-at-first.ensures in
     rows_past (parts_in c.args.a) c.args.g c.args.form c.args.place c.requires.formed c.requires.placed c.requires.whole c.requires.high (sym c.if-not-table-form.ensures)
     c.word-at-first.result r (omega (arith, c.in-default-stretch.ensures))
 
-pub slice_bounds_result_end : goal.slice_bounds_result_end
-slice_bounds_result_end c =
+pub slice-bounds-result-end : goal.slice-bounds-result-end
+slice-bounds-result-end c =
     let s = c.in-Some.ensures in
     let l : length c.in-Some.words.now ≡ 2 * (c.args.form / 256 + 1) = long c.in-Some.words.now _ _ _ _ c.from.ensures s.0 s.1 in
     search rules

@@ -11,8 +11,8 @@ use Rattle.tables.specs.Table.{places}
 use Rattle.parties.proofs.Stepping.{grown_in, bytes_are, made_few, stepped_as}
 use Rattle.evaluator.proofs.evaluating.evaluate_next.Goals as goal
 
-pub advance_requires : goal.advance_requires
-advance_requires g c =
+pub advance-requires : goal.advance-requires
+advance-requires g c =
     let r = c.requires.ready in
     let w = c.requires.within in
     let few = made_few _ _ _ _ _ _ _ r c.evaluate-gate.new.wires.made c.evaluate-gate.ensures.made in

@@ -7,8 +7,8 @@ use Rattle.tables.specs.Table.{places}
 use Rattle.parties.proofs.Stepping.{grown_in, part_long, bytes_are, made_few, stepped_as}
 use Rattle.garbler.proofs.garbling.garble_next.Goals as goal
 
-pub advance_requires : goal.advance_requires
-advance_requires g c =
+pub advance-requires : goal.advance-requires
+advance-requires g c =
     let r = c.requires.ready in
     let w = c.requires.within in
     let few = made_few _ _ _ _ _ _ _ r c.garble-gate.new.wires.made c.garble-gate.ensures.made in

@@ -3,8 +3,8 @@ use Rattle.std.proofs.lemmas.Result.{err_from_is_err_and}
 use Rattle.parties.proofs.Early.{begin_not_16}
 use Rattle.garbler.proofs.opening.may_open.Goals as goal
 
-pub returns_in_err_c : goal.returns_in_err_c
-returns_in_err_c g c =
+pub returns-in-err-c : goal.returns-in-err-c
+returns-in-err-c g c =
     let p = err_from_is_err_and c.from-residual.result c.from-residual.ensures.1 in
     let e = c.in-err-c.ensures in
     let n = begin_not_16 c.args.circuit.now c.args.side.now.ended c.args.wires c.in-err-c.field-0.0 e in

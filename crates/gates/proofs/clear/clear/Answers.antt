@@ -3,8 +3,8 @@ use Rattle.std.proofs.lemmas.List.{ext_get_or, length-replicate, get_or-replicat
 use Rattle.std.proofs.lemmas.Bool.{cases_eq}
 use Rattle.gates.proofs.clear.clear.Goals as goal
 
-pub loop_i_preserved : goal.loop_i_preserved
-loop_i_preserved g c =
+pub loop-i-preserved : goal.loop-i-preserved
+loop-i-preserved g c =
     let z = g.L.Label.kind.zero in
     let i = c.loop-i.i in
     λ k l. elim (cases_eq k i) [

@@ -15,8 +15,8 @@ put front back A B h p q =
     ∙ ap (λ (x : List ℕ). front ++ (back ++ x)) (drop_all (24 - n) (drop n zeros) rest)
     ∙ ap (λ (x : List ℕ). front ++ x) (append-nil back)
 
-pub slice_bounds_bytes_end_2 : goal.slice_bounds_bytes_end_2
-slice_bounds_bytes_end_2 c = let long = ap length c.copy-from-slice.ensures.after in simp (length-append, length-drop) (omega arith)
+pub slice-bounds-bytes-end-2 : goal.slice-bounds-bytes-end-2
+slice-bounds-bytes-end-2 c = let long = ap length c.copy-from-slice.ensures.after in simp (length-append, length-drop) (omega arith)
 
 pub returns : goal.returns
 returns c =

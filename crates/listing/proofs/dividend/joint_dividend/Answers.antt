@@ -3,8 +3,8 @@ use Rattle.circuit.specs.Gates.{wires_in}
 use Rattle.plain.specs.Plain.{Evaluated}
 use Rattle.listing.proofs.dividend.joint_dividend.Goals as goal
 
-pub returns_in_Ok : goal.returns_in_Ok
-returns_in_Ok c =
+pub returns-in-Ok : goal.returns-in-Ok
+returns-in-Ok c =
     let p = c.in-ok-c.ensures in
     record {
       evaluated = subst (λ (bits : List ℕ). Evaluated c.args.circuit.now bits c.args.wires.now c.plain.new.wires c.plain.new.outputs) c.input-bits-bits.ensures c.in-Ok.ensures;

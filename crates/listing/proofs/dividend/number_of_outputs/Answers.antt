@@ -2,8 +2,8 @@ use Rattle.std.proofs.Common.{◌≡◌, ℕ, ◌+◌, ◌*◌, ◌^◌, Bool, e
 use Rattle.plain.proofs.Numbers.{weight_more, number_more}
 use Rattle.listing.proofs.dividend.number_of_outputs.Goals as goal
 
-pub loop_j_preserved : goal.loop_j_preserved
-loop_j_preserved c =
+pub loop-j-preserved : goal.loop-j-preserved
+loop-j-preserved c =
     let f : ℕ → Bool = λ o. eqb (get_or c.args.outputs.now o 0) 1 in
     let i = c.loop-j.invariant in
     let w = weight_more f c.loop-j.j c.loop-j.sum c.loop-j.weight i.0 i.1 i.2 in (

@@ -9,8 +9,8 @@ use Rattle.listing.proofs.dividend.write_low.Goals as goal
 lowest : (n : ℕ) → n < 2 → n ≡ cond (eqb n 1) 1 0
 lowest n h = grind (arith, nat_tests)
 
-pub loop_j_preserved : goal.loop_j_preserved
-loop_j_preserved c =
+pub loop-j-preserved : goal.loop-j-preserved
+loop-j-preserved c =
     let j : ℕ = c.loop-j.j in
     let v : ℕ = c.args.value / 2 ^ j % 2 in
     let lt : j < length c.loop-j.out = omega arith in

@@ -3,8 +3,8 @@ use Rattle.listing.specs.Lines.{numbers}
 use Rattle.listing.proofs.Steps.{piece_more}
 use Rattle.listing.proofs.lines.add_numbers.Goals as goal
 
-pub loop_k_preserved : goal.loop_k_preserved
-loop_k_preserved c =
+pub loop-k-preserved : goal.loop-k-preserved
+loop-k-preserved c =
     let f : ℕ → ℕ = λ i. get_or c.args.bytes.now i 0 in
     let number = c.as-str.ensures.value ∙ c.in-ok-number.ensures in
     rw (add-one c.loop-k.k)

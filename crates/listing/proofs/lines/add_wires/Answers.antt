@@ -3,8 +3,8 @@ use Rattle.listing.specs.Lines.{wire_line, wire_lines}
 use Rattle.listing.proofs.Steps.{piece_more}
 use Rattle.listing.proofs.lines.add_wires.Goals as goal
 
-pub loop_w_preserved : goal.loop_w_preserved
-loop_w_preserved c =
+pub loop-w-preserved : goal.loop-w-preserved
+loop-w-preserved c =
     let f : ℕ → Bool = λ k. get_or c.args.wires.now k false in
     let line = c.as-str.ensures.value ∙ c.in-ok-line.ensures ∙ ap (λ (n : ℕ). decimal c.loop-w.w ++ (codes " " ++ (decimal n ++ codes "\n"))) c.as-number.ensures in
     rw (add-one c.loop-w.w)

@@ -7,14 +7,14 @@ use Rattle.listing.specs.Worksheet.{circuit_end}
 use Rattle.listing.proofs.Inputs.{input_short, input_size, input_length, input_passes, front_sizes, bits_count}
 use Rattle.listing.proofs.worksheet.cut_input.Goals as goal
 
-pub returns_in_err_sizes : goal.returns_in_err_sizes
-returns_in_err_sizes c =
+pub returns-in-err-sizes : goal.returns-in-err-sizes
+returns-in-err-sizes c =
     let p = err_from_is_err_and c.from-residual.result c.from-residual.ensures.1 in
     let e = c.in-err-sizes.ensures in
     rw (p.1, p.2, e.0) (input_short c.args.input.now e.1)
 
-pub returns_then_not_within_limits : goal.returns_then_not_within_limits
-returns_then_not_within_limits c =
+pub returns-then-not-within-limits : goal.returns-then-not-within-limits
+returns-then-not-within-limits c =
     let e = c.in-ok-sizes.ensures in
     input_size c.args.input.now e.0 (sym (c.if-not-within-limits.ensures ∙ ap within e.1))
 
@@ -22,8 +22,8 @@ returns_then_not_within_limits c =
 sum_of : (s t : Sizes) (w i : ℕ) → s ≡ t → w ≡ words_in s → i ≡ s.inputs → 2 * w + 2 + i ≡ 2 * words_in t + 2 + t.inputs
 sum_of s t w i e f g = ap₂ (λ (a b : ℕ). 2 * a + 2 + b) (f ∙ ap words_in e) (g ∙ ap (λ (z : Sizes). z.inputs) e)
 
-pub returns_then_input_end : goal.returns_then_input_end
-returns_then_input_end c =
+pub returns-then-input-end : goal.returns-then-input-end
+returns-then-input-end c =
     let e = c.in-ok-sizes.ensures in
     let n = sum_of c.in-ok-sizes.sizes (sizes_of c.args.input.now) _ _ e.1 c.words-of-end.ensures c.from.ensures in
     input_length c.args.input.now e.0 (sym (c.if-not-within-limits.ensures ∙ ap within e.1)) (λ h. c.if-input-end.true (h ∙ sym n))

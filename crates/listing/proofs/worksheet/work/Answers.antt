@@ -3,14 +3,14 @@ use Rattle.circuit.specs.Lent.{parts_in}
 use Rattle.listing.proofs.Works.{work_refused, work_done, outputs_fit}
 use Rattle.listing.proofs.worksheet.work.Goals as goal
 
-pub returns_in_Err : goal.returns_in_Err
-returns_in_Err c =
+pub returns-in-Err : goal.returns-in-Err
+returns-in-Err c =
     let e = c.in-Err.ensures in
     let o = outputs_fit c.args.input.now c.in-ok-p.p c.from-count.result (c.from-count.result - 0) c.args.outputs.now c.in-ok-p.ensures c.from-count.ensures c.requires.1 (omega arith) in
     work_refused c.args.input.now c.in-ok-p.p (parts_in c.in-ok-c.c.arrays) c.in-ok-c.c.wires _ _ c.in-ok-p.ensures c.in-ok-c.ensures c.requires.0 o c.in-Err.why e.0
 
-pub returns_in_Ok : goal.returns_in_Ok
-returns_in_Ok c =
+pub returns-in-Ok : goal.returns-in-Ok
+returns-in-Ok c =
     let e = c.in-Ok.ensures in
     let o = outputs_fit c.args.input.now c.in-ok-p.p c.from-count.result (c.from-count.result - 0) c.args.outputs.now c.in-ok-p.ensures c.from-count.ensures c.requires.1 (omega arith) in
     let l : length c.plain.new.outputs ≡ length (take (c.from-count.result - 0) c.args.outputs.now) = search rules in

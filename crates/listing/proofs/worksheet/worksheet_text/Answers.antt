@@ -23,8 +23,8 @@ same_text input w o wires outputs part d e =
     ∙ ap₂ (λ (i j : ℕ). wire_lines (plain_bit (parts_of (circuit_in input)) (bit_in (bits_from input))) i ++ out_line (λ k. digit (plain_bit (parts_of (circuit_in input)) (bit_in (bits_from input)) (output_of (parts_of (circuit_in input)) k))) j) d.count d.outs_count
     ∙ ap (text_or input) (sym d.passes)
 
-pub returns_in_Ok : goal.returns_in_Ok
-returns_in_Ok c =
+pub returns-in-Ok : goal.returns-in-Ok
+returns-in-Ok c =
     let d = c.in-Ok.ensures in
     let z : c.in-Ok.outs - 0 ≡ c.in-Ok.outs = omega arith in
     IfOk-weaker c.listing.result _ _ (λ t e. e ∙ same_text c.args.input.now c.in-Ok.count c.in-Ok.outs c.work.new.wires c.work.new.outputs (take (c.in-Ok.outs - 0) c.work.new.outputs) d (ap (λ (k : ℕ). take k c.work.new.outputs) z)) c.listing.ensures

@@ -5,8 +5,8 @@ use Rattle.circuit.specs.Parts.{Parts}
 use Rattle.memory.proofs.Copying.{passed_long, copy_passes, copy_is}
 use Rattle.memory.proofs.copy.open_copy.Goals as goal
 
-pub write_copy_requires : goal.write_copy_requires
-write_copy_requires c =
+pub write-copy-requires : goal.write-copy-requires
+write-copy-requires c =
     let bytes = c.args.circuit.now in
     let p = c.in-ok-s.ensures in
     let long = passed_long bytes p.passes in

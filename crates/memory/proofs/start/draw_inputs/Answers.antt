@@ -5,19 +5,19 @@ use Rattle.wires.specs.Wires.{Filled}
 use Rattle.memory.proofs.Starting.{next}
 use Rattle.memory.proofs.start.draw_inputs.Goals as goal
 
-pub push_requires : goal.push_requires
-push_requires g c = let i = c.loop-i.invariant in let l = i.1.long in omega arith
+pub push-requires : goal.push-requires
+push-requires g c = let i = c.loop-i.invariant in let l = i.1.long in omega arith
 
-pub loop_i_init : goal.loop_i_init
-loop_i_init g c = (
+pub loop-i-init : goal.loop-i-init
+loop-i-init g c = (
   c.requires.0,
   record { long = refl; front = λ w d h. absurd (omega arith); past = λ w d h. refl },
   refl,
   ran_none _ _ (g.met.H.LabelHash.fits _),
 )
 
-pub loop_i_preserved : goal.loop_i_preserved
-loop_i_preserved g c =
+pub loop-i-preserved : goal.loop-i-preserved
+loop-i-preserved g c =
     let i = c.loop-i.invariant in
     let F = g.H.LabelHash.means c.args.h.now in
     let r = c.draw-zero.ensures in

@@ -4,8 +4,8 @@ use Rattle.tables.specs.Ran.{Ran}
 use Rattle.wires.specs.Wires.{Filled}
 use Rattle.memory.proofs.start.draw_inputs.Given as goal
 
-abbrev pub invariant_loop_i : goal.invariant_loop_i
-invariant_loop_i g l =
+abbrev pub invariant-loop-i : goal.invariant-loop-i
+invariant-loop-i g l =
     let F = g.H.LabelHash.means l.initial.h in
     (l.wires.made ≡ l.i)
     × Filled l.i (input_zero F l.seed) l.initial.wires.values.now l.wires.values.now

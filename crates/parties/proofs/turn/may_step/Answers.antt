@@ -8,8 +8,8 @@ use Rattle.circuit.proofs.Circuits.{form_known, gates_pass}
 use Rattle.parties.proofs.Decided.{step_none}
 use Rattle.parties.proofs.turn.may_step.Goals as goal
 
-pub bits_at_bits_requires : goal.bits_at_bits_requires
-bits_at_bits_requires g c =
+pub bits-at-bits-requires : goal.bits-at-bits-requires
+bits-at-bits-requires g c =
     let e = c.in-ok-c.ensures in
     let p = e.2 in
     let q : Parts = parts_in c.in-ok-c.c.arrays in

@@ -4,13 +4,13 @@ use Rattle.circuit.specs.Words.{word_at}
 use Rattle.circuit.proofs.Bounds.{each_below}
 use Rattle.plain.proofs.run.give_outputs.Goals as goal
 
-pub read_requires : goal.read_requires
-read_requires c =
+pub read-requires : goal.read-requires
+read-requires c =
     let b = each_below (word_at c.args.list.now) _ _ c.requires.order c.loop-o.o (omega arith) in
     (omega arith, c.requires.room)
 
-pub loop_o_preserved : goal.loop_o_preserved
-loop_o_preserved c =
+pub loop-o-preserved : goal.loop-o-preserved
+loop-o-preserved c =
     let here = c.bit-byte.ensures ∙ ap digit (c.read.ensures false ∙ ap (λ (w : ℕ). get_or c.args.wires.now.values.now w false) c.word-at.ensures) in
     below_more _ _
     (λ k h. let ne : k ≢ c.loop-o.o = omega arith in rw get_or-set_other (c.loop-o.invariant k h))

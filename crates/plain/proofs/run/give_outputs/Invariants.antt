@@ -3,5 +3,5 @@ use Rattle.labels.specs.Numbers.{digit}
 use Rattle.circuit.specs.Words.{word_at}
 use Rattle.plain.proofs.run.give_outputs.Given as goal
 
-abbrev pub invariant_loop_o : goal.invariant_loop_o
-invariant_loop_o l = (k : ℕ) → k < l.o → get_or l.outputs k 0 ≡ digit (get_or l.wires.values.now (word_at l.list k) false)
+abbrev pub invariant-loop-o : goal.invariant-loop-o
+invariant-loop-o l = (k : ℕ) → k < l.o → get_or l.outputs k 0 ≡ digit (get_or l.wires.values.now (word_at l.list k) false)

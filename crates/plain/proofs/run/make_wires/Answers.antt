@@ -12,14 +12,14 @@ use Rattle.wires.proofs.Growth.{filled_on}
 use Rattle.plain.proofs.Plains.{plain_more}
 use Rattle.plain.proofs.run.make_wires.Goals as goal
 
-pub passed_gate_gate_requires : goal.passed_gate_gate_requires
-passed_gate_gate_requires c =
+pub passed-gate-gate-requires : goal.passed-gate-gate-requires
+passed-gate-gate-requires c =
     let p : Parts = parts_in c.args.a in
     let lt : c.loop-g.g < c.args.a.sizes.gates = omega arith in
     record { there = lt; whole = c.requires.whole; passed = gate_shape p c.loop-g.g (each_passes p c.args.a.sizes.gates c.requires.passes c.loop-g.g lt) }
 
-pub plain_gate_requires : goal.plain_gate_requires
-plain_gate_requires c =
+pub plain-gate-requires : goal.plain-gate-requires
+plain-gate-requires c =
     let p : Parts = parts_in c.args.a in
     let g : ℕ = c.loop-g.g in
     let lt : g < c.args.a.sizes.gates = omega arith in
@@ -34,8 +34,8 @@ plain_gate_requires c =
       room = omega arith;
     }
 
-pub loop_g_preserved : goal.loop_g_preserved
-loop_g_preserved c =
+pub loop-g-preserved : goal.loop-g-preserved
+loop-g-preserved c =
     let p : Parts = parts_in c.args.a in
     let g : ℕ = c.loop-g.g in
     let lt : g < c.args.a.sizes.gates = omega arith in

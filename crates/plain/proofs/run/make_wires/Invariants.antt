@@ -5,8 +5,8 @@ use Rattle.plain.specs.Plain.{bit_in, plain_rule}
 use Rattle.wires.specs.Wires.{Filled, wire_after}
 use Rattle.plain.proofs.run.make_wires.Given as goal
 
-abbrev pub invariant_loop_g : goal.invariant_loop_g
-invariant_loop_g l =
+abbrev pub invariant-loop-g : goal.invariant-loop-g
+invariant-loop-g l =
     (l.wires.made ≡ made_before (parts_in l.a) l.g)
     × Filled l.wires.made (wire_after (made_before (parts_in l.a)) (plain_rule (parts_in l.a)) (bit_in l.bits) l.g) l.initial.wires.values.now l.wires.values.now
     × (l.wires.values.ghost_name ≡ l.initial.wires.values.ghost_name)

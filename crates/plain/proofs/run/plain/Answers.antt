@@ -3,8 +3,8 @@ use Rattle.circuit.proofs.Circuits.{gates_pass, outputs_pass}
 use Rattle.plain.proofs.Runs.{evaluated}
 use Rattle.plain.proofs.run.plain.Goals as goal
 
-pub run_requires : goal.run_requires
-run_requires c =
+pub run-requires : goal.run-requires
+run-requires c =
     let e = c.in-ok-c.ensures in
     let p = e.1 in
     let n = p.count in

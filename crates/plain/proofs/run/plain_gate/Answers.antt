@@ -19,8 +19,8 @@ row_bits gate n m ops rows is shaped ws x row ex er j =
     ap (bit j) (er ∙ ap (word_at rows.now) (ex ∙ ap (λ (k : ℕ). number k (λ i. get_or ws (word_at ops.now i) false)) h))
     ∙ ap (λ (q : Gate). new_bit q (λ i. get_or ws (word_at (operands_in q) i) false) j) (sym is)
 
-pub returns_in_Table : goal.returns_in_Table
-returns_in_Table c =
+pub returns-in-Table : goal.returns-in-Table
+returns-in-Table c =
     let ws : List Bool = c.args.wires.now.values.now in
     let made : ℕ = c.args.wires.now.made in
     let is = c.in-Table.is in

@@ -3,8 +3,8 @@ use Rattle.labels.specs.Numbers.{number}
 use Rattle.circuit.specs.Words.{word_at}
 use Rattle.plain.proofs.run.row_number.Given as goal
 
-abbrev pub invariant_loop_j : goal.invariant_loop_j
-invariant_loop_j l =
+abbrev pub invariant-loop-j : goal.invariant-loop-j
+invariant-loop-j l =
     (l.row ≡ number l.j (λ i. get_or l.wires.values.now (word_at l.operands i) false))
     × (l.weight ≡ 2 ^ l.j)
     × (l.row < 2 ^ l.j)

@@ -10,8 +10,8 @@ next bits k made x old mid new e here a b =
     filled_grown k 1 (bit_in bits) (λ _. x) old mid new a (subst (λ (n : ℕ). Grown n 1 (λ _. x) mid new) e b)
     (λ j l. let z : k ≡ k + j = omega arith in here ∙ ap (bit_in bits) z)
 
-pub loop_i_preserved : goal.loop_i_preserved
-loop_i_preserved c =
+pub loop-i-preserved : goal.loop-i-preserved
+loop-i-preserved c =
     let i = c.loop-i.invariant in (
       (c.push.ensures.made ∙ ap (λ (n : ℕ). n + 1) i.0),
       next c.args.bits.now c.loop-i.i _ _ _ _ _ i.0 refl i.1 c.push.ensures.grown,

@@ -2,11 +2,11 @@ use Rattle.std.proofs.Common.{ℕ, ◌+◌, ◌*◌, sym, arith}
 use Rattle.sha256.proofs.Loops.{after_none, after_more}
 use Rattle.sha256.proofs.compression.turns.Goals as goal
 
-pub loop_i_init : goal.loop_i_init
-loop_i_init c = sym (after_none _ _)
+pub loop-i-init : goal.loop-i-init
+loop-i-init c = sym (after_none _ _)
 
-pub loop_i_preserved : goal.loop_i_preserved
-loop_i_preserved c =
+pub loop-i-preserved : goal.loop-i-preserved
+loop-i-preserved c =
     let start = c.args.start in
     let w = c.args.w.now in
     let t = 8 * c.loop-i.i in

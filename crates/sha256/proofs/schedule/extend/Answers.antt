@@ -4,11 +4,11 @@ use Rattle.sha256.specs.Schedule.{extended}
 use Rattle.sha256.proofs.Loops.{schedule_all, schedule_more}
 use Rattle.sha256.proofs.schedule.extend.Goals as goal
 
-pub loop_t_init : goal.loop_t_init
-loop_t_init c = (refl, simp length-append (omega arith))
+pub loop-t-init : goal.loop-t-init
+loop-t-init c = (refl, simp length-append (omega arith))
 
-pub loop_t_preserved : goal.loop_t_preserved
-loop_t_preserved c =
+pub loop-t-preserved : goal.loop-t-preserved
+loop-t-preserved c =
     let w = c.loop-t.w in
     let t = c.loop-t.t in
     let v = c.next.result in

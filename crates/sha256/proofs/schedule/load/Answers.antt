@@ -4,8 +4,8 @@ use Rattle.std.proofs.lemmas.List.FromFn.{fill_by_all}
 use Rattle.sha256.specs.Words.{word_at}
 use Rattle.sha256.proofs.schedule.load.Goals as goal
 
-pub loop_t_preserved : goal.loop_t_preserved
-loop_t_preserved c =
+pub loop-t-preserved : goal.loop-t-preserved
+loop-t-preserved c =
     let w = c.loop-t.w in
     let t = c.loop-t.t in
     let v = c.block-word.result in

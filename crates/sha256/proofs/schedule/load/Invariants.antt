@@ -2,5 +2,5 @@ use Rattle.std.proofs.Common.{◌≡◌, ℕ, ◌<◌, length, get_or}
 use Rattle.sha256.specs.Words.{word_at}
 use Rattle.sha256.proofs.schedule.load.Given as goal
 
-abbrev pub invariant_loop_t : goal.invariant_loop_t
-invariant_loop_t l = ((k : ℕ) → k < l.t → get_or l.w k 0 ≡ word_at l.block k) × (length l.w ≡ 16)
+abbrev pub invariant-loop-t : goal.invariant-loop-t
+invariant-loop-t l = ((k : ℕ) → k < l.t → get_or l.w k 0 ≡ word_at l.block k) × (length l.w ≡ 16)

@@ -11,21 +11,21 @@ use Rattle.tables.specs.Table.{places}
 use Rattle.steps.proofs.Arms.{grown_as, reads_made, room_for, two_operands, xor_labels, and_labels, table_labels, half, xor_calls, and_calls, table_calls, and_bytes, table_bytes, table_least}
 use Rattle.steps.proofs.evaluate.evaluate_gate.Goals as goal
 
-pub passed_gate_requires : goal.passed_gate_requires
-passed_gate_requires g c =
+pub passed-gate-requires : goal.passed-gate-requires
+passed-gate-requires g c =
     let p : Parts = parts_in c.args.a in
     record { there = c.requires.there; whole = c.requires.passes.0; passed = gate_shape p c.args.g (each_passes p _ c.requires.passes.1 c.args.g c.requires.there) }
 
-pub xor_wire_requires : goal.xor_wire_requires
-xor_wire_requires g c =
+pub xor-wire-requires : goal.xor-wire-requires
+xor-wire-requires g c =
     let p : Parts = parts_in c.args.a in
     let at = c.in-Xor.ensures in
     let made = c.args.wires.now.made in
     let room = room_for p c.args.g (Gate.Xor c.in-Xor.operands) made _ at c.requires.there c.requires.made c.requires.room in
     record { shaped = at.2; order = two_operands p c.args.g c.in-Xor.operands made at.2 (reads_made p c.args.g (Gate.Xor c.in-Xor.operands) made at c.requires.there c.requires.passes.1 c.requires.made); room = omega arith }
 
-pub evaluate_and_requires : goal.evaluate_and_requires
-evaluate_and_requires g c =
+pub evaluate-and-requires : goal.evaluate-and-requires
+evaluate-and-requires g c =
     let p : Parts = parts_in c.args.a in
     let at = c.in-And.ensures in
     let made = c.args.wires.now.made in
@@ -37,8 +37,8 @@ evaluate_and_requires g c =
       lent = c.requires.lent.0 ∙ and_bytes p c.args.g g.L.Label.kind.width c.in-And.operands at;
     }
 
-pub evaluate_table_requires : goal.evaluate_table_requires
-evaluate_table_requires g c =
+pub evaluate-table-requires : goal.evaluate-table-requires
+evaluate-table-requires g c =
     let p : Parts = parts_in c.args.a in
     let q : ℕ = c.args.g in
     let gate : Gate = Gate.Table c.in-Table.n c.in-Table.m c.in-Table.operands c.in-Table.rows in
@@ -61,8 +61,8 @@ evaluate_table_requires g c =
       );
     }
 
-pub returns_in_Xor : goal.returns_in_Xor
-returns_in_Xor g c =
+pub returns-in-Xor : goal.returns-in-Xor
+returns-in-Xor g c =
     let K = g.L.Label.kind in
     let F = g.H.LabelHash.means c.args.h.now in
     let p : Parts = parts_in c.args.a in
@@ -82,8 +82,8 @@ returns_in_Xor g c =
       count = (let z = (xor_calls p q ops at).1 in omega arith);
     }
 
-pub returns_in_And : goal.returns_in_And
-returns_in_And g c =
+pub returns-in-And : goal.returns-in-And
+returns-in-And g c =
     let K = g.L.Label.kind in
     let F = g.H.LabelHash.means c.args.h.now in
     let p : Parts = parts_in c.args.a in
@@ -103,8 +103,8 @@ returns_in_And g c =
       count = r.count ∙ ap (counted (g.H.LabelHash.calls c.args.h.now)) (sym (and_calls p q ops at).1);
     }
 
-pub returns_in_Table : goal.returns_in_Table
-returns_in_Table g c =
+pub returns-in-Table : goal.returns-in-Table
+returns-in-Table g c =
     let K = g.L.Label.kind in
     let F = g.H.LabelHash.means c.args.h.now in
     let p : Parts = parts_in c.args.a in

@@ -7,13 +7,13 @@ use Rattle.tables.proofs.Filling.{there_first}
 use Rattle.tables.proofs.Packing.{listed_all}
 use Rattle.steps.proofs.operands.read_operands.Goals as goal
 
-pub operand_x_requires : goal.operand_x_requires
-operand_x_requires g c =
+pub operand-x-requires : goal.operand-x-requires
+operand-x-requires g c =
     let b = each_below (word_at c.args.operands.now) _ _ c.requires.order c.loop-j.j (omega arith) in
     record { there = omega arith; order = b; room = c.requires.room }
 
-pub loop_j_preserved : goal.loop_j_preserved
-loop_j_preserved g c =
+pub loop-j-preserved : goal.loop-j-preserved
+loop-j-preserved g c =
     let K = g.L.Label.kind in
     let f : ℕ → g.row.L.Denot = λ i. places K c.args.wires.now.values.now (word_at c.args.operands.now i) in
     λ i l. ap (λ xs. places K xs i) c.store.ensures

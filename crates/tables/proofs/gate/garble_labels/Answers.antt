@@ -10,15 +10,15 @@ use Rattle.tables.proofs.Numbering.{two_pow, number_below, fits_eight}
 use Rattle.tables.proofs.Running.{ran_then}
 use Rattle.tables.proofs.gate.garble_labels.Goals as goal
 
-pub pick_all_requires : goal.pick_all_requires
-pick_all_requires g c =
+pub pick-all-requires : goal.pick-all-requires
+pick-all-requires g c =
     let n = length c.args.zeros.now in
     let p : 2 ^ (n + 1) ≡ 2 ^ n + 2 ^ n = ap (λ k. 2 ^ k) (add-one n) ∙ two_pow n in
     let e = fits_eight n (omega arith) in
     omega arith
 
-pub mask_table_requires : goal.mask_table_requires
-mask_table_requires g c =
+pub mask-table-requires : goal.mask-table-requires
+mask-table-requires g c =
     let K = g.L.Label.kind in
     let n = length c.args.zeros.now in
     let ew : (1 * 2 ^ n) % 2 ^ 64 ≡ 2 ^ n = one_shl n 64 (omega arith) in

@@ -6,8 +6,8 @@ use Rattle.tables.specs.Ran.{Ran}
 use Rattle.tables.specs.Table.{places, masked}
 use Rattle.tables.proofs.levels.evaluate_level.Given as goal
 
-abbrev pub invariant_loop_j : goal.invariant_loop_j
-invariant_loop_j g l =
+abbrev pub invariant-loop-j : goal.invariant-loop-j
+invariant-loop-j g l =
     let K = g.L.Label.kind in
     let F = g.H.LabelHash.means l.initial.h in
     Holds K l.j (λ j. K.xor (places K l.initial.new j) (K.xor (masked K F l.gate l.l l.w (λ i. get_or l.nums i 0) l.key l.b (places K l.v) j) (times K l.b (row_at K l.material (l.at + j))))) l.new

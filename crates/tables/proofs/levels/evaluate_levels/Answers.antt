@@ -7,8 +7,8 @@ use Rattle.tables.proofs.Masks.{twice_next, level_below, level_within, next_row,
 use Rattle.tables.proofs.Running.{ran_none, ran_then, ran_for}
 use Rattle.tables.proofs.levels.evaluate_levels.Goals as goal
 
-pub pick_requires : goal.pick_requires
-pick_requires g c =
+pub pick-requires : goal.pick-requires
+pick-requires g c =
     let n = length c.args.labels.now in
     let d = c.loop-d.d in
     let inv = c.loop-d.invariant in
@@ -18,8 +18,8 @@ pick_requires g c =
     let low = level_below n d 7 (omega arith) (omega arith) in
     omega arith
 
-pub evaluate_then_halve_requires : goal.evaluate_then_halve_requires
-evaluate_then_halve_requires g c =
+pub evaluate-then-halve-requires : goal.evaluate-then-halve-requires
+evaluate-then-halve-requires g c =
     let n = length c.args.labels.now in
     let d = c.loop-d.d in
     let inv = c.loop-d.invariant in
@@ -35,8 +35,8 @@ evaluate_then_halve_requires g c =
     let same : (c.loop-d.at + length c.loop-d.new) * g.L.Label.kind.width ≡ (c.args.first + (d * c.args.m + c.args.m)) * g.L.Label.kind.width = ap (λ k. k * g.L.Label.kind.width) (omega arith) in
     record { small = omega arith; long = omega arith }
 
-pub overflow_add_at : goal.overflow_add_at
-overflow_add_at g c =
+pub overflow-add-at : goal.overflow-add-at
+overflow-add-at g c =
     let K = g.L.Label.kind in
     let n = length c.args.labels.now in
     let a = c.loop-d.invariant.2 in
@@ -44,16 +44,16 @@ overflow_add_at g c =
     let f = rows_counted (c.args.first + n * c.args.m) K.width K.width_least in
     omega arith
 
-pub loop_d_init : goal.loop_d_init
-loop_d_init g c =
+pub loop-d-init : goal.loop-d-init
+loop-d-init g c =
     let K = g.L.Label.kind in
     let n = length c.args.labels.now in
     let e : 2 ^ (n - 0) ≡ 2 ^ n = let q : n - 0 ≡ n = omega arith in ap (λ k. 2 ^ k) q in
     let z = zero-mul c.args.m in
     (refl, omega arith, omega arith, (λ i l. refl), (λ j l. sym (K.right _)), ran_for _ _ _ _ _ _ (ran_none _ _ (g.met.H.LabelHash.fits _)) (omega arith))
 
-pub loop_d_preserved : goal.loop_d_preserved
-loop_d_preserved g c =
+pub loop-d-preserved : goal.loop-d-preserved
+loop-d-preserved g c =
     let K = g.L.Label.kind in
     let F = g.H.LabelHash.means c.args.h.now in
     let E = places K c.args.labels.now in

@@ -5,8 +5,8 @@ use Rattle.tables.specs.Ran.{Ran}
 use Rattle.tables.specs.Table.{places, sum, halved, taken}
 use Rattle.tables.proofs.levels.evaluate_levels.Given as goal
 
-abbrev pub invariant_loop_d : goal.invariant_loop_d
-invariant_loop_d g l =
+abbrev pub invariant-loop-d : goal.invariant-loop-d
+invariant-loop-d g l =
     let K = g.L.Label.kind in
     let F = g.H.LabelHash.means l.initial.h in
     let V = places K l.initial.v in

@@ -8,23 +8,23 @@ use Rattle.tables.proofs.Masks.{masked_ext, rows_within, rows_counted}
 use Rattle.tables.proofs.Running.{ran_none, ran_then, ran_for}
 use Rattle.tables.proofs.levels.garble_level.Goals as goal
 
-pub loop_j_init : goal.loop_j_init
-loop_j_init g c =
+pub loop-j-init : goal.loop-j-init
+loop-j-init g c =
     let K = g.L.Label.kind in
     (holds_none K _ _ _ refl, (λ i l. refl), (λ i l. absurd (omega arith)), (λ i l. refl), ran_none _ _ (g.met.H.LabelHash.fits _))
 
-pub overflow_add_at : goal.overflow_add_at
-overflow_add_at g c =
+pub overflow-add-at : goal.overflow-add-at
+overflow-add-at g c =
     let K = g.L.Label.kind in
     let f = rows_counted (c.args.at + length c.args.new.now) K.width K.width_least in
     omega arith
 
-pub put_row_requires : goal.put_row_requires
-put_row_requires g c =
+pub put-row-requires : goal.put-row-requires
+put-row-requires g c =
     let r = rows_within (c.args.at + c.loop-j.j) (c.args.at + length c.args.new.now) g.L.Label.kind.width (omega arith) in omega arith
 
-pub loop_j_preserved : goal.loop_j_preserved
-loop_j_preserved g c =
+pub loop-j-preserved : goal.loop-j-preserved
+loop-j-preserved g c =
     let K = g.L.Label.kind in
     let F = g.H.LabelHash.means c.args.h.now in
     let V = places K c.args.v.now in

@@ -5,8 +5,8 @@ use Rattle.tables.specs.Ran.{Ran}
 use Rattle.tables.specs.Table.{places, masked}
 use Rattle.tables.proofs.levels.garble_level.Given as goal
 
-abbrev pub invariant_loop_j : goal.invariant_loop_j
-invariant_loop_j g l =
+abbrev pub invariant-loop-j : goal.invariant-loop-j
+invariant-loop-j g l =
     let K = g.L.Label.kind in
     let F = g.H.LabelHash.means l.initial.h in
     let zero : ℕ → g.row.L.Denot = masked K F l.gate l.l l.w (λ i. get_or l.nums (l.from + i) 0) l.key0 false (places K l.v) in

@@ -8,8 +8,8 @@ use Rattle.tables.proofs.Masks.{twice_next, level_within, next_row, rows_within,
 use Rattle.tables.proofs.Running.{ran_none, ran_then, ran_for}
 use Rattle.tables.proofs.levels.garble_levels.Goals as goal
 
-pub garble_level_requires : goal.garble_level_requires
-garble_level_requires g c =
+pub garble-level-requires : goal.garble-level-requires
+garble-level-requires g c =
     let n = length c.args.zeros.now in
     let d = c.loop-d.d in
     let inv = c.loop-d.invariant in
@@ -23,8 +23,8 @@ garble_level_requires g c =
     let same : (c.loop-d.at + length c.loop-d.new) * g.L.Label.kind.width ≡ (c.args.first + (d * c.args.m + c.args.m)) * g.L.Label.kind.width = ap (λ k. k * g.L.Label.kind.width) (omega arith) in
     record { small = omega arith; long = omega arith }
 
-pub overflow_add_at : goal.overflow_add_at
-overflow_add_at g c =
+pub overflow-add-at : goal.overflow-add-at
+overflow-add-at g c =
     let K = g.L.Label.kind in
     let n = length c.args.zeros.now in
     let a = c.loop-d.invariant.1 in
@@ -32,8 +32,8 @@ overflow_add_at g c =
     let f = rows_counted (c.args.first + n * c.args.m) K.width K.width_least in
     omega arith
 
-pub halve_requires : goal.halve_requires
-halve_requires g c =
+pub halve-requires : goal.halve-requires
+halve-requires g c =
     let n = length c.args.zeros.now in
     let d = c.loop-d.d in
     let e = c.loop-d.invariant.0 in
@@ -41,16 +41,16 @@ halve_requires g c =
     let within = level_within n d in
     omega arith
 
-pub loop_d_init : goal.loop_d_init
-loop_d_init g c =
+pub loop-d-init : goal.loop-d-init
+loop-d-init g c =
     let K = g.L.Label.kind in
     let n = length c.args.zeros.now in
     let e : 2 ^ (n - 0) ≡ 2 ^ n = let q : n - 0 ≡ n = omega arith in ap (λ k. 2 ^ k) q in
     let z = zero-mul c.args.m in
     (omega arith, omega arith, (λ i l. refl), (λ j l. sym (K.right _)), (λ d l. absurd (omega arith)), (λ i l. refl), ran_for _ _ _ _ _ _ (ran_none _ _ (g.met.H.LabelHash.fits _)) (omega arith))
 
-pub loop_d_preserved : goal.loop_d_preserved
-loop_d_preserved g c =
+pub loop-d-preserved : goal.loop-d-preserved
+loop-d-preserved g c =
     let K = g.L.Label.kind in
     let F = g.H.LabelHash.means c.args.h.now in
     let gate = c.args.gate in

@@ -3,11 +3,11 @@ use Rattle.tables.proofs.Filling.{holds_none, holds_more, past_set}
 use Rattle.tables.proofs.Growing.{read_place}
 use Rattle.tables.proofs.levels.halve.Goals as goal
 
-pub loop_i_init : goal.loop_i_init
-loop_i_init g c = (holds_none g.L.Label.kind _ _ _ refl, λ i l. refl)
+pub loop-i-init : goal.loop-i-init
+loop-i-init g c = (holds_none g.L.Label.kind _ _ _ refl, λ i l. refl)
 
-pub loop_i_preserved : goal.loop_i_preserved
-loop_i_preserved g c =
+pub loop-i-preserved : goal.loop-i-preserved
+loop-i-preserved g c =
     let K = g.L.Label.kind in
     let i = c.loop-i.i in
     let inv = c.loop-i.invariant in

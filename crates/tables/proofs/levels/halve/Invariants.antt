@@ -3,7 +3,7 @@ use Rattle.tables.specs.Level.{Holds, Past}
 use Rattle.tables.specs.Table.{places}
 use Rattle.tables.proofs.levels.halve.Given as goal
 
-abbrev pub invariant_loop_i : goal.invariant_loop_i
-invariant_loop_i g l =
+abbrev pub invariant-loop-i : goal.invariant-loop-i
+invariant-loop-i g l =
     let K = g.L.Label.kind in
     Holds K l.i (λ i. K.xor (places K l.initial.v i) (places K l.initial.v (i + l.w))) l.v × Past K l.i l.initial.v l.v

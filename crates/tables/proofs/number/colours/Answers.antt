@@ -5,8 +5,8 @@ use Rattle.tables.proofs.Hot.{colours_more}
 use Rattle.tables.proofs.Numbering.{two_pow, number_below}
 use Rattle.tables.proofs.number.colours.Goals as goal
 
-pub overflow_add_number : goal.overflow_add_number
-overflow_add_number g c =
+pub overflow-add-number : goal.overflow-add-number
+overflow-add-number g c =
     let K = g.L.Label.kind in
     let k = c.loop-k.k in
     let e = c.loop-k.invariant.0 in
@@ -15,8 +15,8 @@ overflow_add_number g c =
     let p = pow_mono {i = k} {j = 8} (omega arith) in
     omega arith
 
-pub loop_k_preserved : goal.loop_k_preserved
-loop_k_preserved g c =
+pub loop-k-preserved : goal.loop-k-preserved
+loop-k-preserved g c =
     let K = g.L.Label.kind in
     let k = c.loop-k.k in
     let A = places K c.args.labels.now in

@@ -8,15 +8,15 @@ use Rattle.tables.proofs.Numbering.{two_pow, number_below, fits_eight}
 use Rattle.tables.proofs.Running.{ran_none, ran_then, ran_for}
 use Rattle.tables.proofs.one_hot.evaluate_one_hot.Goals as goal
 
-pub bounds_v_1 : goal.bounds_v_1
-bounds_v_1 g c = let p = two_fit (length c.args.labels.now) (omega arith) in simp length-set (omega arith)
+pub bounds-v-1 : goal.bounds-v-1
+bounds-v-1 g c = let p = two_fit (length c.args.labels.now) (omega arith) in simp length-set (omega arith)
 
-pub get_row_row_requires : goal.get_row_row_requires
-get_row_row_requires g c =
+pub get-row-row-requires : goal.get-row-row-requires
+get-row-row-requires g c =
     let r = rows_within (c.loop-j.j - 1) (length c.args.labels.now - 1) g.L.Label.kind.width (omega arith) in omega arith
 
-pub grow_around_requires : goal.grow_around_requires
-grow_around_requires g c =
+pub grow-around-requires : goal.grow-around-requires
+grow-around-requires g c =
     let K = g.L.Label.kind in
     let q = c.loop-j.invariant.0 in
     let eight = fits_eight (length c.args.labels.now) (omega arith) in
@@ -26,8 +26,8 @@ grow_around_requires g c =
     let e : length c.loop-j.v ≡ length c.args.v.now = c.loop-j.auto.v ∙ simp length-set in
     omega arith
 
-pub overflow_add_x : goal.overflow_add_x
-overflow_add_x g c =
+pub overflow-add-x : goal.overflow-add-x
+overflow-add-x g c =
     let K = g.L.Label.kind in
     let q = c.loop-j.invariant.0 in
     let eight = fits_eight (length c.args.labels.now) (omega arith) in
@@ -36,15 +36,15 @@ overflow_add_x g c =
     let b = number_below c.loop-j.j (λ k. K.colour (places K c.args.labels.now k)) in
     omega arith
 
-pub overflow_add_w : goal.overflow_add_w
-overflow_add_w g c =
+pub overflow-add-w : goal.overflow-add-w
+overflow-add-w g c =
     let q = c.loop-j.invariant.0 in
     let eight = fits_eight (length c.args.labels.now) (omega arith) in
     let p = next_fits c.loop-j.j (length c.args.labels.now) (omega arith) in
     omega arith
 
-pub loop_j_init : goal.loop_j_init
-loop_j_init g c =
+pub loop-j-init : goal.loop-j-init
+loop-j-init g c =
     let K = g.L.Label.kind in
     let F = g.H.LabelHash.means c.args.h.now in
     let E = places K c.args.labels.now in
@@ -57,8 +57,8 @@ loop_j_init g c =
       ran_none _ _ (g.met.H.LabelHash.fits _),
     )
 
-pub loop_j_preserved : goal.loop_j_preserved
-loop_j_preserved g c =
+pub loop-j-preserved : goal.loop-j-preserved
+loop-j-preserved g c =
     let K = g.L.Label.kind in
     let F = g.H.LabelHash.means c.args.h.now in
     let E = places K c.args.labels.now in

@@ -9,11 +9,11 @@ use Rattle.tables.proofs.Numbering.{two_pow, fits_eight}
 use Rattle.tables.proofs.Running.{ran_none, ran_then, ran_for}
 use Rattle.tables.proofs.one_hot.garble_one_hot.Goals as goal
 
-pub bounds_v_1 : goal.bounds_v_1
-bounds_v_1 g c = let p = two_fit (length c.args.zeros.now) (omega arith) in simp length-set (omega arith)
+pub bounds-v-1 : goal.bounds-v-1
+bounds-v-1 g c = let p = two_fit (length c.args.zeros.now) (omega arith) in simp length-set (omega arith)
 
-pub grow_all_requires : goal.grow_all_requires
-grow_all_requires g c =
+pub grow-all-requires : goal.grow-all-requires
+grow-all-requires g c =
     let n = length c.args.zeros.now in
     let q = c.loop-j.invariant.0 in
     let p = next_fits c.loop-j.j n (omega arith) in
@@ -21,19 +21,19 @@ grow_all_requires g c =
     let e : length c.loop-j.v ≡ length c.args.v.now = c.loop-j.auto.v ∙ simp length-set in
     omega arith
 
-pub put_row_requires : goal.put_row_requires
-put_row_requires g c =
+pub put-row-requires : goal.put-row-requires
+put-row-requires g c =
     let r = rows_within (c.loop-j.j - 1) (length c.args.zeros.now - 1) g.L.Label.kind.width (omega arith) in omega arith
 
-pub overflow_add_w : goal.overflow_add_w
-overflow_add_w g c =
+pub overflow-add-w : goal.overflow-add-w
+overflow-add-w g c =
     let q = c.loop-j.invariant.0 in
     let p = next_fits c.loop-j.j (length c.args.zeros.now) (omega arith) in
     let b = fits_eight (length c.args.zeros.now) (omega arith) in
     omega arith
 
-pub loop_j_init : goal.loop_j_init
-loop_j_init g c =
+pub loop-j-init : goal.loop-j-init
+loop-j-init g c =
     let K = g.L.Label.kind in
     let F = g.H.LabelHash.means c.args.h.now in
     let Δ = c.args.offset in
@@ -46,8 +46,8 @@ loop_j_init g c =
       ran_none _ _ (g.met.H.LabelHash.fits _),
     )
 
-pub loop_j_preserved : goal.loop_j_preserved
-loop_j_preserved g c =
+pub loop-j-preserved : goal.loop-j-preserved
+loop-j-preserved g c =
     let K = g.L.Label.kind in
     let F = g.H.LabelHash.means c.args.h.now in
     let Δ = c.args.offset in

@@ -5,8 +5,8 @@ use Rattle.tables.specs.Ran.{Ran}
 use Rattle.tables.specs.Table.{places, based, hot, hot_row}
 use Rattle.tables.proofs.one_hot.garble_one_hot.Given as goal
 
-abbrev pub invariant_loop_j : goal.invariant_loop_j
-invariant_loop_j g l =
+abbrev pub invariant-loop-j : goal.invariant-loop-j
+invariant-loop-j g l =
     let K = g.L.Label.kind in
     let F = g.H.LabelHash.means l.initial.h in
     let B : ℕ → g.row.L.Denot = λ k. based K l.offset (places K l.zeros k) in

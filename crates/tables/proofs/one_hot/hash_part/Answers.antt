@@ -3,12 +3,12 @@ use Rattle.tables.proofs.Growing.{between_none, between_more, between_all, grew_
 use Rattle.tables.proofs.Running.{ran_none, ran_then, ran_for}
 use Rattle.tables.proofs.one_hot.hash_part.Goals as goal
 
-pub loop_i_init : goal.loop_i_init
-loop_i_init g c =
+pub loop-i-init : goal.loop-i-init
+loop-i-init g c =
     (grew_none g.L.Label.kind _ _ _ _, between_none g.L.Label.kind _ _ _ c.zero-all.ensures, ran_for _ _ _ _ _ _ (ran_none _ _ (g.met.H.LabelHash.fits _)) (omega arith))
 
-pub loop_i_preserved : goal.loop_i_preserved
-loop_i_preserved g c =
+pub loop-i-preserved : goal.loop-i-preserved
+loop-i-preserved g c =
     let K = g.L.Label.kind in
     let s = c.loop-i.invariant.0 in
     let x = read_place K c.loop-i.v c.loop-i.i c.index-v-i.result (omega arith) c.index-v-i.is ∙ s.midst c.loop-i.i (omega arith) (omega arith) in

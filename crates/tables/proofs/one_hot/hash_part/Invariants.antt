@@ -4,8 +4,8 @@ use Rattle.tables.specs.Ran.{Ran}
 use Rattle.tables.specs.Table.{places, hashed}
 use Rattle.tables.proofs.one_hot.hash_part.Given as goal
 
-abbrev pub invariant_loop_i : goal.invariant_loop_i
-invariant_loop_i g l =
+abbrev pub invariant-loop-i : goal.invariant-loop-i
+invariant-loop-i g l =
     let K = g.L.Label.kind in
     let F = g.H.LabelHash.means l.initial.h in
     let V = places K l.initial.v in

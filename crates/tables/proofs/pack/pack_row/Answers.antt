@@ -6,22 +6,22 @@ use Rattle.labels.specs.Numbers.{bit}
 use Rattle.tables.proofs.Packing.{in_rows, stream_at, packing_room, packing_more}
 use Rattle.tables.proofs.pack.pack_row.Goals as goal
 
-pub bounds_bytes_at : goal.bounds_bytes_at
-bounds_bytes_at c =
+pub bounds-bytes-at : goal.bounds-bytes-at
+bounds-bytes-at c =
     let r = in_rows c.args.w c.args.m (λ i. i) c.args.i c.loop-j.j (omega arith) (omega arith) in
     let q = c.requires.there in
     let k = c.loop-j.auto.bytes in
     omega arith
 
-pub bounds_bytes_at_in_loop_j : goal.bounds_bytes_at_in_loop_j
-bounds_bytes_at_in_loop_j c =
+pub bounds-bytes-at-in-loop-j : goal.bounds-bytes-at-in-loop-j
+bounds-bytes-at-in-loop-j c =
     let r = in_rows c.args.w c.args.m (λ i. i) c.args.i c.loop-j.j (omega arith) (omega arith) in
     let q = c.requires.there in
     let k = c.loop-j.auto.bytes in
     omega arith
 
-pub overflow_add_bytes : goal.overflow_add_bytes
-overflow_add_bytes c =
+pub overflow-add-bytes : goal.overflow-add-bytes
+overflow-add-bytes c =
     let at : ℕ = c.args.p + c.loop-j.j in
     let r = in_rows c.args.w c.args.m (λ i. i) c.args.i c.loop-j.j (omega arith) (omega arith) in
     let q = c.requires.there in
@@ -31,8 +31,8 @@ overflow_add_bytes c =
     let room = packing_room c.args.w c.args.m (λ i. get_or c.args.fs.now i 0) at c.weight.result c.loop-j.bytes c.loop-j.invariant (omega arith) (omega arith) in
     omega arith
 
-pub loop_j_preserved : goal.loop_j_preserved
-loop_j_preserved c =
+pub loop-j-preserved : goal.loop-j-preserved
+loop-j-preserved c =
     let f : ℕ → ℕ = λ i. get_or c.args.fs.now i 0 in
     let w = c.args.w in
     let m = c.args.m in

@@ -6,15 +6,15 @@ use Rattle.tables.proofs.Filling.{there_first}
 use Rattle.tables.proofs.Masks.{next_row, rows_within}
 use Rattle.tables.proofs.pack.unpack.Goals as goal
 
-pub unpack_row_requires : goal.unpack_row_requires
-unpack_row_requires c =
+pub unpack-row-requires : goal.unpack-row-requires
+unpack-row-requires c =
     let r = rows_within c.loop-i.i c.args.w c.args.m (omega arith) in
     let b = mul-le c.loop-i.i c.args.m 256 16 (omega arith) (omega arith) in
     let e = c.loop-i.invariant.0 in
     omega arith
 
-pub loop_i_preserved : goal.loop_i_preserved
-loop_i_preserved c =
+pub loop-i-preserved : goal.loop-i-preserved
+loop-i-preserved c =
     let i = c.loop-i.i in
     let e = c.loop-i.invariant.0 in
     let q = next_row i c.args.m in (

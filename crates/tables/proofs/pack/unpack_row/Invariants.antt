@@ -3,5 +3,5 @@ use Rattle.tables.specs.Material.{bit_at}
 use Rattle.labels.specs.Numbers.{number}
 use Rattle.tables.proofs.pack.unpack_row.Given as goal
 
-abbrev pub invariant_loop_j : goal.invariant_loop_j
-invariant_loop_j l = (l.one ≡ 2 ^ l.j) × (l.f ≡ number l.j (λ j. bit_at l.bytes (l.p + j)))
+abbrev pub invariant-loop-j : goal.invariant-loop-j
+invariant-loop-j l = (l.one ≡ 2 ^ l.j) × (l.f ≡ number l.j (λ j. bit_at l.bytes (l.p + j)))

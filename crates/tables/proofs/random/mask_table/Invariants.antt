@@ -4,5 +4,5 @@ use Rattle.tables.specs.Material.{row_word}
 use Rattle.tables.specs.Mixed.{mixed}
 use Rattle.tables.proofs.random.mask_table.Given as goal
 
-abbrev pub invariant_loop_i : goal.invariant_loop_i
-invariant_loop_i l = (i : ℕ) → i < l.i → get_or l.fs i 0 ≡ bit_xor (row_word l.rows (bit_xor i l.alpha)) (bit_xor l.s (mixed l.n (λ d. get_or l.nums (2 ^ (l.n - d) + i % 2 ^ (l.n - d)) 0)))
+abbrev pub invariant-loop-i : goal.invariant-loop-i
+invariant-loop-i l = (i : ℕ) → i < l.i → get_or l.fs i 0 ≡ bit_xor (row_word l.rows (bit_xor i l.alpha)) (bit_xor l.s (mixed l.n (λ d. get_or l.nums (2 ^ (l.n - d) + i % 2 ^ (l.n - d)) 0)))

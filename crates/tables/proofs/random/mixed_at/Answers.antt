@@ -10,11 +10,11 @@ use Rattle.tables.proofs.random.mixed_at.Goals as goal
 low_part : (i half k : ℕ) → half ≡ 2 ^ k → bit_and i (half - 1) ≡ i % 2 ^ k
 low_part i half k e = ap (λ h. bit_and i (h - 1)) e ∙ and_mask i k
 
-pub loop_d_init : goal.loop_d_init
-loop_d_init c = (let q : c.args.n ≡ c.args.n - 0 = omega arith in c.requires.1.0 ∙ ap (λ k. 2 ^ k) q, sym (xor_zero_r c.args.s))
+pub loop-d-init : goal.loop-d-init
+loop-d-init c = (let q : c.args.n ≡ c.args.n - 0 = omega arith in c.requires.1.0 ∙ ap (λ k. 2 ^ k) q, sym (xor_zero_r c.args.s))
 
-pub bounds_nums_half : goal.bounds_nums_half
-bounds_nums_half c =
+pub bounds-nums-half : goal.bounds-nums-half
+bounds-nums-half c =
     let e = c.loop-d.invariant.0 in
     let pos = pow_pos (c.args.n - c.loop-d.d) in
     let b = mod_below c.args.i (2 ^ (c.args.n - c.loop-d.d)) (omega arith) in
@@ -23,8 +23,8 @@ bounds_nums_half c =
     let p : 2 ^ (c.args.n + 1) ≡ 2 ^ c.args.n + 2 ^ c.args.n = ap (λ k. 2 ^ k) (add-one c.args.n) ∙ two_pow c.args.n in
     omega arith
 
-pub loop_d_preserved : goal.loop_d_preserved
-loop_d_preserved c =
+pub loop-d-preserved : goal.loop-d-preserved
+loop-d-preserved c =
     let n = c.args.n in
     let d = c.loop-d.d in
     let e = c.loop-d.invariant.0 in

@@ -4,11 +4,11 @@ use Rattle.tables.proofs.Filling.{there_more}
 use Rattle.tables.proofs.Running.{ran_none, ran_then, ran_for}
 use Rattle.tables.proofs.random.pick.Goals as goal
 
-pub loop_i_init : goal.loop_i_init
-loop_i_init g c = ((λ i l. absurd (omega arith)), (λ i l. refl), ran_none _ _ (g.met.H.LabelHash.fits _))
+pub loop-i-init : goal.loop-i-init
+loop-i-init g c = ((λ i l. absurd (omega arith)), (λ i l. refl), ran_none _ _ (g.met.H.LabelHash.fits _))
 
-pub loop_i_preserved : goal.loop_i_preserved
-loop_i_preserved g c =
+pub loop-i-preserved : goal.loop-i-preserved
+loop-i-preserved g c =
     let K = g.L.Label.kind in
     let F = g.H.LabelHash.means c.args.h.now in
     let i = c.loop-i.i in

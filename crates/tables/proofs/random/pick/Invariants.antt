@@ -3,8 +3,8 @@ use Rattle.tables.specs.Ran.{Ran}
 use Rattle.tables.specs.Table.{picked}
 use Rattle.tables.proofs.random.pick.Given as goal
 
-abbrev pub invariant_loop_i : goal.invariant_loop_i
-invariant_loop_i g l =
+abbrev pub invariant-loop-i : goal.invariant-loop-i
+invariant-loop-i g l =
     let K = g.L.Label.kind in
     let F = g.H.LabelHash.means l.initial.h in
     ((i : ℕ) → i < l.i → get_or l.nums (l.from + i) 0 ≡ picked K F l.gate l.m l.w l.key i)

@@ -7,8 +7,8 @@ use Rattle.tables.proofs.Numbering.{two_pow}
 use Rattle.tables.proofs.Running.{ran_none, ran_then, ran_for}
 use Rattle.tables.proofs.random.pick_all.Goals as goal
 
-pub pick_requires : goal.pick_requires
-pick_requires g c =
+pub pick-requires : goal.pick-requires
+pick-requires g c =
     let n = length c.args.zeros.now in
     let e = c.loop-p.invariant.0 in
     let f = next_fits c.loop-p.p n (omega arith) in
@@ -16,8 +16,8 @@ pick_requires g c =
     let k = pow_mono {i = n} {j = 8} (omega arith) in
     omega arith
 
-pub pick_requires_in_loop_p : goal.pick_requires_in_loop_p
-pick_requires_in_loop_p g c =
+pub pick-requires-in-loop-p : goal.pick-requires-in-loop-p
+pick-requires-in-loop-p g c =
     let n = length c.args.zeros.now in
     let e = c.loop-p.invariant.0 in
     let f = next_fits c.loop-p.p n (omega arith) in
@@ -25,11 +25,11 @@ pick_requires_in_loop_p g c =
     let k = pow_mono {i = n} {j = 8} (omega arith) in
     omega arith
 
-pub loop_p_init : goal.loop_p_init
-loop_p_init g c = (refl, (λ p l. absurd (omega arith)), ran_none _ _ (g.met.H.LabelHash.fits _))
+pub loop-p-init : goal.loop-p-init
+loop-p-init g c = (refl, (λ p l. absurd (omega arith)), ran_none _ _ (g.met.H.LabelHash.fits _))
 
-pub loop_p_preserved : goal.loop_p_preserved
-loop_p_preserved g c =
+pub loop-p-preserved : goal.loop-p-preserved
+loop-p-preserved g c =
     let K = g.L.Label.kind in
     let F = g.H.LabelHash.means c.args.h.now in
     let B : ℕ → g.row.L.Denot = λ k. based K c.args.offset (places K c.args.zeros.now k) in

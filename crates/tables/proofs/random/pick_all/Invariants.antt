@@ -4,8 +4,8 @@ use Rattle.tables.specs.Ran.{Ran}
 use Rattle.tables.specs.Table.{places, based}
 use Rattle.tables.proofs.random.pick_all.Given as goal
 
-abbrev pub invariant_loop_p : goal.invariant_loop_p
-invariant_loop_p g l =
+abbrev pub invariant-loop-p : goal.invariant-loop-p
+invariant-loop-p g l =
     let K = g.L.Label.kind in
     let F = g.H.LabelHash.means l.initial.h in
     (l.w ≡ 2 ^ l.p)

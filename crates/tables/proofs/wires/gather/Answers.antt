@@ -6,8 +6,8 @@ use Rattle.tables.proofs.Growing.{read_place}
 use Rattle.tables.proofs.Sums.{sum_more, sum_all}
 use Rattle.tables.proofs.wires.gather.Goals as goal
 
-pub loop_i_preserved : goal.loop_i_preserved
-loop_i_preserved g c =
+pub loop-i-preserved : goal.loop-i-preserved
+loop-i-preserved g c =
     let K = g.L.Label.kind in
     let i = c.loop-i.i in
     let f : ℕ → g.row.L.Denot = λ k. times K (bit c.args.j (get_or c.args.nums.now (c.args.from + k) 0)) (places K c.args.v.now (c.args.at + k)) in

@@ -5,8 +5,8 @@ use Rattle.tables.proofs.Filling.{holds_more}
 use Rattle.tables.proofs.Masks.{chosen_ext}
 use Rattle.tables.proofs.wires.start_wires.Goals as goal
 
-pub loop_j_preserved : goal.loop_j_preserved
-loop_j_preserved g c =
+pub loop-j-preserved : goal.loop-j-preserved
+loop-j-preserved g c =
     let K = g.L.Label.kind in
     holds_more K _ _ _ _ _ c.loop-j.invariant (omega arith)
     (c.xor.ensures ∙ ap₂ K.xor (c.times.ensures ∙ ap (λ v. times K v c.args.offset) c.has-bit.ensures)

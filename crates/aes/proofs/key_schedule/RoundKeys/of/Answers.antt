@@ -7,8 +7,8 @@ use Rattle.aes.proofs.Words.{bytes4_xor}
 use Rattle.aes.proofs.Expansion.{start, word_rule}
 use Rattle.aes.proofs.key_schedule.RoundKeys.of.Goals as goal
 
-pub loop_i_preserved : goal.loop_i_preserved
-loop_i_preserved c =
+pub loop-i-preserved : goal.loop-i-preserved
+loop-i-preserved c =
     let i = c.loop-i.i in
     let ws = c.loop-i.words in
     let from : 4 ≤ i = omega arith in
@@ -26,8 +26,8 @@ loop_i_preserved c =
           (rw get_or-set_same here),
     )
 
-pub invariant_of_result : goal.invariant_of_result
-invariant_of_result c = (λ i h. c.loop-i.invariant.1 i (omega arith), tt)
+pub invariant-of-result : goal.invariant-of-result
+invariant-of-result c = (λ i h. c.loop-i.invariant.1 i (omega arith), tt)
 
-pub loop_i_init : goal.loop_i_init
-loop_i_init c = let k = c.args.key in (refl, start k.a k.b k.c k.d (replicate 40 0))
+pub loop-i-init : goal.loop-i-init
+loop-i-init c = let k = c.args.key in (refl, start k.a k.b k.c k.d (replicate 40 0))

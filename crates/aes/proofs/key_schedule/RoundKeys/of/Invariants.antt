@@ -4,5 +4,5 @@ use Rattle.aes.specs.Columns.{bytes_of}
 use Rattle.aes.specs.KeyExpansion.{key_expansion}
 use Rattle.aes.proofs.key_schedule.RoundKeys.of.Given as goal
 
-abbrev pub invariant_loop_i : goal.invariant_loop_i
-invariant_loop_i l = (length l.words ≡ 44) × ((k : ℕ) → k < l.i → bytes4 (get_or l.words k 0) ≡ get_or (key_expansion (bytes_of l.key)) k [])
+abbrev pub invariant-loop-i : goal.invariant-loop-i
+invariant-loop-i l = (length l.words ≡ 44) × ((k : ℕ) → k < l.i → bytes4 (get_or l.words k 0) ≡ get_or (key_expansion (bytes_of l.key)) k [])

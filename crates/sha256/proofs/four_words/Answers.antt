@@ -9,8 +9,8 @@ put A B C D a b c d p q r s = rw (p, q, r, s)
 
 pub returns : goal.returns
 returns c =
-    put c.copy-from-slice.new.self c.copy-from-slice-2.new.self c.copy-from-slice-3.new.self c.copy-from-slice-4.new.self c.args.a c.args.b c.args.c c.args.d
-    (c.copy-from-slice.ensures.after ∙ c.to-be-bytes.ensures)
-    (c.copy-from-slice-2.ensures.after ∙ c.to-be-bytes-2.ensures)
-    (c.copy-from-slice-3.ensures.after ∙ c.to-be-bytes-3.ensures)
-    (c.copy-from-slice-4.ensures.after ∙ c.to-be-bytes-4.ensures)
+    put c.copy_from_slice.new.self c.copy_from_slice-2.new.self c.copy_from_slice-3.new.self c.copy_from_slice-4.new.self c.args.a c.args.b c.args.c c.args.d
+    (c.copy_from_slice.ensures.after ∙ c.to_be_bytes.ensures)
+    (c.copy_from_slice-2.ensures.after ∙ c.to_be_bytes-2.ensures)
+    (c.copy_from_slice-3.ensures.after ∙ c.to_be_bytes-3.ensures)
+    (c.copy_from_slice-4.ensures.after ∙ c.to_be_bytes-4.ensures)

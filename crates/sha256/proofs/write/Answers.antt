@@ -12,4 +12,4 @@ put A B s p q = rw (p, q)
 
 pub returns : goal.returns
 returns c =
-    put c.copy-from-slice.new.self c.copy-from-slice-2.new.self c.args.s (c.copy-from-slice.ensures.after ∙ c.four_words.ensures) (c.copy-from-slice-2.ensures.after ∙ c.four-words-2.ensures)
+    put c.copy_from_slice.new.self c.copy_from_slice-2.new.self c.args.s (c.copy_from_slice.ensures.after ∙ c.four_words.ensures) (c.copy_from_slice-2.ensures.after ∙ c.four_words-2.ensures)

@@ -13,6 +13,6 @@ returns c =
     let n = length bytes - a in
     let long : length bytes ≡ length rest + 9 + k = omega (arith, c.requires.room, c.requires.short) in
     let blank : bytes ≡ replicate (length rest + 9 + k) 0 = c.requires.blank ∙ ap (λ (j : ℕ). replicate j 0) long in
-    let marked = c.mark.ensures ∙ ap (λ (x : List ℕ). set (x ++ drop (length rest) bytes) (length rest) 128) c.copy-from-slice.ensures.after in
-    ap₂ (λ (x y : List ℕ). put_mid a n x y) marked c.write-length.ensures
+    let marked = c.mark.ensures ∙ ap (λ (x : List ℕ). set (x ++ drop (length rest) bytes) (length rest) 128) c.copy_from_slice.ensures.after in
+    ap₂ (λ (x y : List ℕ). put_mid a n x y) marked c.write_length.ensures
     ∙ written rest k bytes _ a n blank (omega (arith, long)) (omega (arith, long))

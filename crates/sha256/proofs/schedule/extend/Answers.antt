@@ -21,5 +21,5 @@ returns c =
     let t64 : c.loop-t.t ≡ 64 = omega arith in
     let short : length w ≤ 64 = omega (arith, c.loop-t.invariant.1) in
     let grown : extended (take 64 w) 0 ≡ extended (take 16 _) 48 = rw t64 at c.loop-t.invariant.0 in
-    let front = take_at c.copy-from-slice.new.self _ 16 c.copy-from-slice.ensures.len ∙ c.copy-from-slice.ensures.after in
+    let front = take_at c.copy_from_slice.new.self _ 16 c.copy_from_slice.ensures.len ∙ c.copy_from_slice.ensures.after in
     sym (take_all 64 w short) ∙ sym (schedule_all (take 64 w)) ∙ grown ∙ ap (λ (l : List ℕ). extended l 48) front

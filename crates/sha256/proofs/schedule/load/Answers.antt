@@ -8,10 +8,10 @@ pub loop-t-preserved : goal.loop-t-preserved
 loop-t-preserved c =
     let w = c.loop-t.w in
     let t = c.loop-t.t in
-    let v = c.block-word.result in
+    let v = c.block_word.result in
     let h : t < length w = omega (arith, c.loop-t.invariant.1) in
     let others : (k : ℕ) → k < t → get_or (set w t v) k 0 ≡ word_at c.args.block.now k = λ k b. get_or-set_other w t k v 0 (omega arith) ∙ c.loop-t.invariant.0 k b in
-    (below_more _ t others (get_or-set_same w t v 0 h ∙ c.block-word.ensures), length-set w t v ∙ c.loop-t.invariant.1)
+    (below_more _ t others (get_or-set_same w t v 0 h ∙ c.block_word.ensures), length-set w t v ∙ c.loop-t.invariant.1)
 
 pub returns : goal.returns
 returns c =

@@ -86,8 +86,8 @@ fn material<L: Label>(a: Arrays) -> (usize, usize)
     requires whole { Whole (parts_in a) }
     requires few { a.sizes.gates ≤ 512 }
     requires forms { (g : ℕ) → g < a.sizes.gates → known (form_of (parts_in a) g) ≡ true }
-    ensures bits { result.0 ≡ bits_in kind (parts_in a.entry) a.entry.sizes.gates }
-    ensures bytes { result.1 ≡ bytes_in kind (parts_in a.entry) a.entry.sizes.gates }
+    ensures bits { result.0 ≡ bits_in L.kind (parts_in a.entry) a.entry.sizes.gates }
+    ensures bytes { result.1 ≡ bytes_in L.kind (parts_in a.entry) a.entry.sizes.gates }
 {
     let kappa = 8 * L::width();
     let mut bits = 0;
@@ -102,7 +102,7 @@ fn material<L: Label>(a: Arrays) -> (usize, usize)
 
 // The sizes, wires and material of a circuit for labels of one kind, or its first refusal.
 pub fn check<L: Label>(circuit: &[u8]) -> Result<Checked, Refusal>
-    ensures { result ≡ checked kind circuit.now }
+    ensures { result ≡ checked L.kind circuit.now }
 {
     let c = read(circuit)?;
     let (bits, bytes) = material::<L>(c.arrays);

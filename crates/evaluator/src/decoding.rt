@@ -21,7 +21,7 @@ impl Evaluator {
         colours: &[u8],
         outputs: &mut [u8],
     ) -> Result<(), Refusal>
-        ensures { MatchResult result (λ _. (decode_refusal self.now.side circuit.now (length wires.now) colours.now (length outputs.old) ≡ None) × (outputs.new ≡ decoded_of kind wires.now (parts_of circuit.now).outputs colours.now (length outputs.old))) (λ why. (decode_refusal self.now.side circuit.now (length wires.now) colours.now (length outputs.old) ≡ Some why) × (outputs.new ≡ outputs.old)) }
+        ensures { MatchResult result (λ _. (decode_refusal self.now.side circuit.now (length wires.now) colours.now (length outputs.old) ≡ None) × (outputs.new ≡ decoded_of L.kind wires.now (parts_of circuit.now).outputs colours.now (length outputs.old))) (λ why. (decode_refusal self.now.side circuit.now (length wires.now) colours.now (length outputs.old) ≡ Some why) × (outputs.new ≡ outputs.old)) }
     {
         let turn = in_turn(self.state(), Call::Decode);
         let list = may_outputs(&self.side, turn, circuit, wires.len(), colours.len())?;

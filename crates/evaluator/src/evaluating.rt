@@ -31,10 +31,10 @@ fn evaluate_next<L: Label, H: LabelHash<L>>(
     scratch: &mut [L],
 )
     requires within { Within side.old }
-    requires ready { StepReady kind side.old (parts_in a) bits (length wires.old) (length scratch.old) (length material.now) }
-    ensures stepped { Stepped kind (parts_in a.entry) (means h.old) side.old side.new wires.old wires.new material.now scratch.old scratch.new }
-    ensures kept { means h.new ≡ means h.old }
-    ensures count { calls h.new ≡ counted (calls h.old) (evaluate_calls (parts_in a.entry) side.old.next) }
+    requires ready { StepReady L.kind side.old (parts_in a) bits (length wires.old) (length scratch.old) (length material.now) }
+    ensures stepped { Stepped L.kind (parts_in a.entry) (H.means h.old) side.old side.new wires.old wires.new material.now scratch.old scratch.new }
+    ensures kept { H.means h.new ≡ H.means h.old }
+    ensures count { H.calls h.new ≡ counted (H.calls h.old) (evaluate_calls (parts_in a.entry) side.old.next) }
 {
     let from = side.bytes;
     let made = side.made;
@@ -56,7 +56,7 @@ impl Evaluator {
         material: &[u8],
         scratch: &mut [L],
     ) -> Result<(), Refusal>
-        ensures { MatchResult result (λ _. (evaluate_refusal self.old.side circuit.now kind (length wires.old) (length scratch.old) (length material.now) ≡ None) × Stepped kind (parts_of circuit.now) (means h.old) self.old.side self.new.side wires.old wires.new material.now scratch.old scratch.new × (means h.new ≡ means h.old) × (calls h.new ≡ counted (calls h.old) (evaluate_calls (parts_of circuit.now) self.old.side.next))) (λ why. (evaluate_refusal self.old.side circuit.now kind (length wires.old) (length scratch.old) (length material.now) ≡ Some why) × (self.new ≡ self.old) × (wires.new ≡ wires.old) × (scratch.new ≡ scratch.old) × (h.new ≡ h.old)) }
+        ensures { MatchResult result (λ _. (evaluate_refusal self.old.side circuit.now L.kind (length wires.old) (length scratch.old) (length material.now) ≡ None) × Stepped L.kind (parts_of circuit.now) (H.means h.old) self.old.side self.new.side wires.old wires.new material.now scratch.old scratch.new × (H.means h.new ≡ H.means h.old) × (H.calls h.new ≡ counted (H.calls h.old) (evaluate_calls (parts_of circuit.now) self.old.side.next))) (λ why. (evaluate_refusal self.old.side circuit.now L.kind (length wires.old) (length scratch.old) (length material.now) ≡ Some why) × (self.new ≡ self.old) × (wires.new ≡ wires.old) × (scratch.new ≡ scratch.old) × (h.new ≡ h.old)) }
     {
         let turn = in_turn(self.state(), Call::Evaluate);
         let (a, bits) = may_step::<L>(

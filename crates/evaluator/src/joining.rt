@@ -30,7 +30,7 @@ impl Evaluator {
         circuit: &[u8],
         wires: &mut [L],
     ) -> Result<EvaluatorToken, Refusal>
-        ensures { MatchResult result (λ _. (join_refusal self.old.side circuit.now (length wires.old) ≡ None) × Joined kind (parts_of circuit.now) self.new.side wires.old wires.new) (λ why. (join_refusal self.old.side circuit.now (length wires.old) ≡ Some why) × (self.new ≡ self.old) × (wires.new ≡ wires.old)) }
+        ensures { MatchResult result (λ _. (join_refusal self.old.side circuit.now (length wires.old) ≡ None) × Joined L.kind (parts_of circuit.now) self.new.side wires.old wires.new) (λ why. (join_refusal self.old.side circuit.now (length wires.old) ≡ Some why) × (self.new ≡ self.old) × (wires.new ≡ wires.old)) }
     {
         let turn = in_turn(self.state(), Call::Join);
         let (sizes, total) = may_join(turn, circuit, wires.len())?;

@@ -19,7 +19,7 @@ impl Evaluator {
         token: EvaluatorToken,
         wires: &mut [L],
     ) -> Result<(), (Refusal, EvaluatorToken)>
-        ensures { MatchResult result (λ _. (wipe_refusal self.old.side (allowed (state_of self.old.side) Wipe) (length wires.old) ≡ None) × (self.new.side ≡ unused) × (wires.new ≡ replicate (length wires.old) kind.zero)) (λ e. (wipe_refusal self.old.side (allowed (state_of self.old.side) Wipe) (length wires.old) ≡ Some e.0) × (self.new ≡ self.old) × (wires.new ≡ wires.old)) }
+        ensures { MatchResult result (λ _. (wipe_refusal self.old.side (allowed (state_of self.old.side) Wipe) (length wires.old) ≡ None) × (self.new.side ≡ unused) × (wires.new ≡ replicate (length wires.old) L.kind.zero)) (λ e. (wipe_refusal self.old.side (allowed (state_of self.old.side) Wipe) (length wires.old) ≡ Some e.0) × (self.new ≡ self.old) × (wires.new ≡ wires.old)) }
     {
         let turn = in_turn(self.state(), Call::Wipe);
         match may_wipe(&self.side, turn, wires.len()) {

@@ -13,7 +13,7 @@ use parties::turn::{has_garbled, may_outputs};
 impl<L: Label> Garbler<L> {
     // Writes the colour of each output's zero label.
     pub fn colours(&self, circuit: &[u8], wires: &[L], colours: &mut [u8]) -> Result<(), Refusal>
-        ensures { MatchResult result (λ _. (colours_refusal self.now.side circuit.now (length wires.now) (length colours.old) ≡ None) × (colours.new ≡ colours_of kind wires.now (parts_of circuit.now).outputs (length colours.old))) (λ why. (colours_refusal self.now.side circuit.now (length wires.now) (length colours.old) ≡ Some why) × (colours.new ≡ colours.old)) }
+        ensures { MatchResult result (λ _. (colours_refusal self.now.side circuit.now (length wires.now) (length colours.old) ≡ None) × (colours.new ≡ colours_of L.kind wires.now (parts_of circuit.now).outputs (length colours.old))) (λ why. (colours_refusal self.now.side circuit.now (length wires.now) (length colours.old) ≡ Some why) × (colours.new ≡ colours.old)) }
     {
         let turn = has_garbled(&self.side);
         let list = may_outputs(&self.side, turn, circuit, wires.len(), colours.len())?;

@@ -20,7 +20,7 @@ impl<L: Label> Garbler<L> {
         input: usize,
         bit: u8,
     ) -> Result<L, Refusal>
-        ensures { MatchResult result (λ label. (encode_refusal self.old.side circuit.now (length wires.now) input bit ≡ None) × (label ≡ encoded kind self.old.offset wires.now input bit) × (self.new.side ≡ marked self.old.side input) × (self.new.offset ≡ self.old.offset) × (self.new.seed ≡ self.old.seed)) (λ why. (encode_refusal self.old.side circuit.now (length wires.now) input bit ≡ Some why) × (self.new ≡ self.old)) }
+        ensures { MatchResult result (λ label. (encode_refusal self.old.side circuit.now (length wires.now) input bit ≡ None) × (label ≡ encoded L.kind self.old.offset wires.now input bit) × (self.new.side ≡ marked self.old.side input) × (self.new.offset ≡ self.old.offset) × (self.new.seed ≡ self.old.seed)) (λ why. (encode_refusal self.old.side circuit.now (length wires.now) input bit ≡ Some why) × (self.new ≡ self.old)) }
     {
         let turn = !self.side.ended;
         may_input(&self.side, turn, circuit, wires.len(), input, bit)?;

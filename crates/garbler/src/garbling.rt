@@ -32,10 +32,10 @@ fn garble_next<L: Label, H: LabelHash<L>>(
     scratch: &mut [L],
 )
     requires within { Within side.old }
-    requires ready { StepReady kind side.old (parts_in a) bits (length wires.old) (length scratch.old) (length material.old) }
-    ensures garbled { Garbled kind (means h.old) (parts_in a.entry) seed offset side.old side.new bits wires.old wires.new material.old material.new scratch.old scratch.new }
-    ensures kept { means h.new ≡ means h.old }
-    ensures count { calls h.new ≡ counted (calls h.old) (garble_calls (parts_in a.entry) side.old.next) }
+    requires ready { StepReady L.kind side.old (parts_in a) bits (length wires.old) (length scratch.old) (length material.old) }
+    ensures garbled { Garbled L.kind (H.means h.old) (parts_in a.entry) seed offset side.old side.new bits wires.old wires.new material.old material.new scratch.old scratch.new }
+    ensures kept { H.means h.new ≡ H.means h.old }
+    ensures count { H.calls h.new ≡ counted (H.calls h.old) (garble_calls (parts_in a.entry) side.old.next) }
 {
     let from = side.bytes;
     let made = side.made;
@@ -66,7 +66,7 @@ impl<L: Label> Garbler<L> {
         material: &mut [u8],
         scratch: &mut [L],
     ) -> Result<usize, Refusal>
-        ensures { MatchResult result (λ bits. (garble_refusal self.old.side circuit.now kind (length wires.old) (length scratch.old) (length material.old) ≡ None) × Garbled kind (means h.old) (parts_of circuit.now) self.old.seed self.old.offset self.old.side self.new.side bits wires.old wires.new material.old material.new scratch.old scratch.new × (self.new.seed ≡ self.old.seed) × (self.new.offset ≡ self.old.offset) × (means h.new ≡ means h.old) × (calls h.new ≡ counted (calls h.old) (garble_calls (parts_of circuit.now) self.old.side.next))) (λ why. (garble_refusal self.old.side circuit.now kind (length wires.old) (length scratch.old) (length material.old) ≡ Some why) × (self.new ≡ self.old) × (wires.new ≡ wires.old) × (material.new ≡ material.old) × (scratch.new ≡ scratch.old) × (h.new ≡ h.old)) }
+        ensures { MatchResult result (λ bits. (garble_refusal self.old.side circuit.now L.kind (length wires.old) (length scratch.old) (length material.old) ≡ None) × Garbled L.kind (H.means h.old) (parts_of circuit.now) self.old.seed self.old.offset self.old.side self.new.side bits wires.old wires.new material.old material.new scratch.old scratch.new × (self.new.seed ≡ self.old.seed) × (self.new.offset ≡ self.old.offset) × (H.means h.new ≡ H.means h.old) × (H.calls h.new ≡ counted (H.calls h.old) (garble_calls (parts_of circuit.now) self.old.side.next))) (λ why. (garble_refusal self.old.side circuit.now L.kind (length wires.old) (length scratch.old) (length material.old) ≡ Some why) × (self.new ≡ self.old) × (wires.new ≡ wires.old) × (material.new ≡ material.old) × (scratch.new ≡ scratch.old) × (h.new ≡ h.old)) }
     {
         let turn = garbles(&self.side);
         let (a, bits) = may_step::<L>(

@@ -26,7 +26,7 @@ fn may_open<L: Label>(
     wires: usize,
     seed: &[u8],
 ) -> Result<(Sizes, u16), Refusal>
-    ensures { MatchResult result (λ v. (seed_refusal side.now circuit.now kind wires seed.now ≡ None) × (length seed.now ≡ kind.width) × Sized circuit.now v.0 v.1 wires) (λ why. (seed_refusal side.now circuit.now kind wires seed.now ≡ Some why) × ((number_of why == 16) ≡ false)) }
+    ensures { MatchResult result (λ v. (seed_refusal side.now circuit.now L.kind wires seed.now ≡ None) × (length seed.now ≡ L.kind.width) × Sized circuit.now v.0 v.1 wires) (λ why. (seed_refusal side.now circuit.now L.kind wires seed.now ≡ Some why) × ((number_of why == 16) ≡ false)) }
 {
     let c = may_begin(side.ended, circuit, wires)?;
     if seed.len() != L::width() {
@@ -41,9 +41,9 @@ fn may_open<L: Label>(
 
 // The offset, which must have its colour.
 fn draw_offset<L: Label, H: LabelHash<L>>(h: &mut H, seed: L) -> Result<L, Refusal>
-    ensures answer { MatchResult result (λ d. (d ≡ drawn-offset (means h.old) seed kind) × (kind.colour (drawn-offset (means h.old) seed kind) ≡ true)) (λ why. (why ≡ Refusal.Colourless) × (kind.colour (drawn-offset (means h.old) seed kind) ≡ false)) }
-    ensures kept { means h.new ≡ means h.old }
-    ensures count { calls h.new ≡ counted (calls h.old) 1 }
+    ensures answer { MatchResult result (λ d. (d ≡ drawn-offset (H.means h.old) seed L.kind) × (L.kind.colour (drawn-offset (H.means h.old) seed L.kind) ≡ true)) (λ why. (why ≡ Refusal.Colourless) × (L.kind.colour (drawn-offset (H.means h.old) seed L.kind) ≡ false)) }
+    ensures kept { H.means h.new ≡ H.means h.old }
+    ensures count { H.calls h.new ≡ counted (H.calls h.old) 1 }
 {
     let offset = draw(h, seed, 0).raise();
     if offset.colour() {
@@ -63,8 +63,8 @@ impl<L: Label> Garbler<L> {
         wires: &mut [L],
     ) -> Result<GarblerToken, Refusal>
         ensures cleared { seed.new ≡ replicate (length seed.old) 0 }
-        ensures kept { means h.new ≡ means h.old }
-        ensures answer { MatchResult result (λ _. (open_refusal self.old.side circuit.now kind (means h.old) (length wires.old) seed.old ≡ None) × Opened kind (means h.old) (parts_of circuit.now) seed.old self.new.side self.new.offset self.new.seed wires.old wires.new × (calls h.new ≡ counted (calls h.old) (1 + (parts_of circuit.now).sizes.inputs))) (λ why. (open_refusal self.old.side circuit.now kind (means h.old) (length wires.old) seed.old ≡ Some why) × (self.new ≡ self.old) × (wires.new ≡ wires.old) × (calls h.new ≡ denied_count (calls h.old) why)) }
+        ensures kept { H.means h.new ≡ H.means h.old }
+        ensures answer { MatchResult result (λ _. (open_refusal self.old.side circuit.now L.kind (H.means h.old) (length wires.old) seed.old ≡ None) × Opened L.kind (H.means h.old) (parts_of circuit.now) seed.old self.new.side self.new.offset self.new.seed wires.old wires.new × (H.calls h.new ≡ counted (H.calls h.old) (1 + (parts_of circuit.now).sizes.inputs))) (λ why. (open_refusal self.old.side circuit.now L.kind (H.means h.old) (length wires.old) seed.old ≡ Some why) × (self.new ≡ self.old) × (wires.new ≡ wires.old) × (H.calls h.new ≡ denied_count (H.calls h.old) why)) }
     {
         let guard = SeedGuard::new(seed);
         let (sizes, total) = may_open::<L>(&self.side, circuit, wires.len(), guard.bytes())?;

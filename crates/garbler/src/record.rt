@@ -24,7 +24,7 @@ impl<L: Label> Garbler<L> {
     // A new side counts as ended.
     pub fn new() -> Garbler<L>
         ensures side { result.side ≡ unused }
-        ensures secrets { (result.offset ≡ kind.zero) × (result.seed ≡ kind.zero) }
+        ensures secrets { (result.offset ≡ L.kind.zero) × (result.seed ≡ L.kind.zero) }
     {
         Garbler {
             side: Side::new(),

@@ -16,7 +16,7 @@ impl<L: Label> Garbler<L> {
         token: GarblerToken,
         wires: &mut [L],
     ) -> Result<(), (Refusal, GarblerToken)>
-        ensures { MatchResult result (λ _. (wipe_refusal self.old.side (not self.old.side.ended) (length wires.old) ≡ None) × (self.new.side ≡ unused) × (self.new.offset ≡ kind.zero) × (self.new.seed ≡ kind.zero) × (wires.new ≡ replicate (length wires.old) kind.zero)) (λ e. (wipe_refusal self.old.side (not self.old.side.ended) (length wires.old) ≡ Some e.0) × (self.new ≡ self.old) × (wires.new ≡ wires.old)) }
+        ensures { MatchResult result (λ _. (wipe_refusal self.old.side (not self.old.side.ended) (length wires.old) ≡ None) × (self.new.side ≡ unused) × (self.new.offset ≡ L.kind.zero) × (self.new.seed ≡ L.kind.zero) × (wires.new ≡ replicate (length wires.old) L.kind.zero)) (λ e. (wipe_refusal self.old.side (not self.old.side.ended) (length wires.old) ≡ Some e.0) × (self.new ≡ self.old) × (wires.new ≡ wires.old)) }
     {
         let turn = !self.side.ended;
         match may_wipe(&self.side, turn, wires.len()) {

@@ -10,9 +10,9 @@ use labels::kind::Label;
 
 // The garbler's step: the rows T and U, and the zero label of the new wire.
 pub fn garble<L: Label, H: LabelHash<L>>(h: &mut H, gate: u32, offset: L, a: L, b: L) -> (L, L, L)
-    ensures answer { result ≡ garbled kind (means h.old) gate offset a b }
-    ensures kept { means h.new ≡ means h.old }
-    ensures count { calls h.new ≡ counted (calls h.old) 4 }
+    ensures answer { result ≡ garbled L.kind (H.means h.old) gate offset a b }
+    ensures kept { H.means h.new ≡ H.means h.old }
+    ensures count { H.calls h.new ≡ counted (H.calls h.old) 4 }
 {
     let p = a.colour();
     let r = b.colour();
@@ -29,9 +29,9 @@ pub fn garble<L: Label, H: LabelHash<L>>(h: &mut H, gate: u32, offset: L, a: L, 
 
 // The last formula of both sides, as the evaluator takes it.
 fn join<L: Label, H: LabelHash<L>>(h: &mut H, gate: u32, t: L, u: L, a: L, b: L) -> L
-    ensures answer { result ≡ joined kind (means h.old) gate t u a b }
-    ensures kept { means h.new ≡ means h.old }
-    ensures count { calls h.new ≡ counted (calls h.old) 2 }
+    ensures answer { result ≡ joined L.kind (H.means h.old) gate t u a b }
+    ensures kept { H.means h.new ≡ H.means h.old }
+    ensures count { H.calls h.new ≡ counted (H.calls h.old) 2 }
 {
     let fa = h.hash(a, tweak(gate, 0));
     let fb = h.hash(b, tweak(gate, 1));
@@ -42,17 +42,17 @@ fn join<L: Label, H: LabelHash<L>>(h: &mut H, gate: u32, t: L, u: L, a: L, b: L)
 
 // The evaluator's step: its label of the new wire, from the rows and its labels.
 pub fn evaluate<L: Label, H: LabelHash<L>>(h: &mut H, gate: u32, t: L, u: L, a: L, b: L) -> L
-    ensures answer { result ≡ joined kind (means h.old) gate t u a b }
-    ensures kept { means h.new ≡ means h.old }
-    ensures count { calls h.new ≡ counted (calls h.old) 2 }
-    ensures meets { Meets kind (means h.old) gate t u a b result }
+    ensures answer { result ≡ joined L.kind (H.means h.old) gate t u a b }
+    ensures kept { H.means h.new ≡ H.means h.old }
+    ensures count { H.calls h.new ≡ counted (H.calls h.old) 2 }
+    ensures meets { Meets L.kind (H.means h.old) gate t u a b result }
 {
     join(h, gate, t, u, a, b)
 }
 
 // Whoever holds the labels of two bits gets the label of their AND: for every label kind and every F.
 pub fn half_gate_stands<L: Label>() -> u8
-    ensures { Sound kind }
+    ensures { Sound L.kind }
 {
     0
 }

@@ -7,24 +7,24 @@ use labels::kind::Label;
 
 // Writes a label's bytes into the part that they fill.
 fn write_part<L: Label>(material: &mut [u8], place: usize, end: usize, label: L)
-    requires { (place + kind.width ≡ end) × (end ≤ length material.old) }
-    ensures { material.new ≡ put_mid place (end - place) material.old (kind.bytes label) }
+    requires { (place + L.kind.width ≡ end) × (end ≤ length material.old) }
+    ensures { material.new ≡ put_mid place (end - place) material.old (L.kind.bytes label) }
 {
     label.write(&mut material[place..end]);
 }
 
 // Writes a label's bytes from a place on; all other bytes stay.
 pub fn put<L: Label>(material: &mut [u8], place: usize, label: L)
-    requires { place + kind.width ≤ length material.old }
-    ensures { material.new ≡ laid place (kind.bytes label) material.old }
+    requires { place + L.kind.width ≤ length material.old }
+    ensures { material.new ≡ laid place (L.kind.bytes label) material.old }
 {
     write_part(material, place, place + L::width(), label);
 }
 
 // Reads the label whose bytes begin at a place.
 pub fn get<L: Label>(material: &[u8], place: usize) -> L
-    requires { place + kind.width ≤ length material.now }
-    ensures { result ≡ kind.from (part place kind.width material.now) }
+    requires { place + L.kind.width ≤ length material.now }
+    ensures { result ≡ L.kind.from (part place L.kind.width material.now) }
 {
     let w = L::width();
     L::read(&material[place..place + w])

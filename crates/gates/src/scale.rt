@@ -6,7 +6,7 @@ use labels::kind::Label;
 
 // b·x: the label where the bit is 1, and the zero label where it is 0.
 pub fn times<L: Label>(bit: bool, x: L) -> L
-    ensures { result ≡ scaled kind bit x }
+    ensures { result ≡ scaled L.kind bit x }
 {
     if bit { x } else { L::zero() }
 }

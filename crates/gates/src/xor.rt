@@ -6,22 +6,22 @@ use labels::kind::Label;
 
 // The ⊕ of both labels.
 fn both<L: Label>(a: L, b: L) -> L
-    ensures { result ≡ kind.xor a b }
+    ensures { result ≡ L.kind.xor a b }
 {
     a.xor(b)
 }
 
 // The new wire's label, from the two operands' labels.
 pub fn step<L: Label>(a: L, b: L) -> L
-    ensures answer { result ≡ kind.xor a b }
-    ensures meets { Meets kind a b result }
+    ensures answer { result ≡ L.kind.xor a b }
+    ensures meets { Meets L.kind a b result }
 {
     both(a, b)
 }
 
 // Whoever holds the labels of two bits gets the label of their XOR: for every label kind.
 pub fn xor_gate_stands<L: Label>() -> u8
-    ensures { Sound kind }
+    ensures { Sound L.kind }
 {
     0
 }

@@ -8,9 +8,9 @@ use labels::kind::Label;
 
 // Draw d of the seed.
 pub fn draw<L: Label, H: LabelHash<L>>(h: &mut H, seed: L, d: u32) -> L
-    ensures answer { result ≡ drawn (means h.old) seed d }
-    ensures kept { means h.new ≡ means h.old }
-    ensures count { calls h.new ≡ counted (calls h.old) 1 }
+    ensures answer { result ≡ drawn (H.means h.old) seed d }
+    ensures kept { H.means h.new ≡ H.means h.old }
+    ensures count { H.calls h.new ≡ counted (H.calls h.old) 1 }
 {
     h.hash(seed, 0x1_0000_0000 + u64::from(d))
 }

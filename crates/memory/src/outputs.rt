@@ -12,7 +12,7 @@ use labels::kind::Label;
 // The label on a wire.
 pub fn label_at<L: Label>(wires: &[L], w: usize) -> L
     requires { w < length wires.now }
-    ensures { result ≡ places kind wires.now w }
+    ensures { result ≡ places L.kind wires.now w }
 {
     wires[w]
 }
@@ -28,7 +28,7 @@ fn bit_byte(bit: bool) -> u8
 fn output_colour<L: Label>(wires: &[L], list: &[u8], o: usize) -> bool
     requires there { o < length list.now / 2 }
     requires order { word_at list.now o < length wires.now }
-    ensures { result ≡ kind.colour (places kind wires.now (word_at list.now o)) }
+    ensures { result ≡ L.kind.colour (places L.kind wires.now (word_at list.now o)) }
 {
     label_at(wires, usize::from(word_at(list, o))).colour()
 }
@@ -37,7 +37,7 @@ fn output_colour<L: Label>(wires: &[L], list: &[u8], o: usize) -> bool
 pub fn write_colours<L: Label>(wires: &[L], list: &[u8], colours: &mut [u8])
     requires long { length list.now ≡ 2 * length colours.old }
     requires order { all_below (word_at list.now) (length colours.old) (length wires.now) ≡ true }
-    ensures { colours.new ≡ colours_of kind wires.now list.now (length colours.old) }
+    ensures { colours.new ≡ colours_of L.kind wires.now list.now (length colours.old) }
 {
     for o in 0..colours.len() {
         colours[o] = bit_byte(output_colour(wires, list, o));
@@ -55,7 +55,7 @@ fn decoded_bit(colour: bool, byte: u8) -> u8
 pub fn write_outputs<L: Label>(wires: &[L], list: &[u8], colours: &[u8], outputs: &mut [u8])
     requires long { (length list.now ≡ 2 * length outputs.old) × (length colours.now ≡ length outputs.old) }
     requires order { all_below (word_at list.now) (length outputs.old) (length wires.now) ≡ true }
-    ensures { outputs.new ≡ decoded_of kind wires.now list.now colours.now (length outputs.old) }
+    ensures { outputs.new ≡ decoded_of L.kind wires.now list.now colours.now (length outputs.old) }
 {
     for o in 0..outputs.len() {
         outputs[o] = decoded_bit(output_colour(wires, list, o), colours[o]);

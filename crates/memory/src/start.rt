@@ -14,10 +14,10 @@ use wires::Wires;
 // Makes each input's wire: its zero label.
 fn draw_inputs<L: Label, H: LabelHash<L>>(h: &mut H, seed: L, wires: &mut Wires<L>, inputs: u16)
     requires { (wires.old.made ≡ 0) × (inputs ≤ length wires.old.values.now) }
-    ensures filled { Filled inputs (input_zero (means h.old) seed) wires.old.values.now wires.new.values.now }
+    ensures filled { Filled inputs (input_zero (H.means h.old) seed) wires.old.values.now wires.new.values.now }
     ensures same { wires.new.values.ghost_name ≡ wires.old.values.ghost_name }
-    ensures kept { means h.new ≡ means h.old }
-    ensures count { calls h.new ≡ counted (calls h.old) inputs }
+    ensures kept { H.means h.new ≡ H.means h.old }
+    ensures count { H.calls h.new ≡ counted (H.calls h.old) inputs }
 {
     for i in 0..inputs {
         let zero = draw(h, seed, 1 + u32::from(i));
@@ -34,9 +34,9 @@ pub fn open_wires<L: Label, H: LabelHash<L>>(
     total: u16,
 )
     requires { (inputs ≤ total) × (total ≤ length wires.old) }
-    ensures filled { Filled total (opened_wire kind (means h.old) seed inputs) wires.old wires.new }
-    ensures kept { means h.new ≡ means h.old }
-    ensures count { calls h.new ≡ counted (calls h.old) inputs }
+    ensures filled { Filled total (opened_wire L.kind (H.means h.old) seed inputs) wires.old wires.new }
+    ensures kept { H.means h.new ≡ H.means h.old }
+    ensures count { H.calls h.new ≡ counted (H.calls h.old) inputs }
 {
     clear(&mut wires[usize::from(inputs)..usize::from(total)]);
     let mut store = Wires::new(wires, 0);
@@ -46,7 +46,7 @@ pub fn open_wires<L: Label, H: LabelHash<L>>(
 // The evaluator's wires: zero for each.
 pub fn join_wires<L: Label>(wires: &mut [L], total: u16)
     requires { total ≤ length wires.old }
-    ensures { Filled total (λ _. kind.zero) wires.old wires.new }
+    ensures { Filled total (λ _. L.kind.zero) wires.old wires.new }
 {
     clear(&mut wires[0..usize::from(total)]);
 }

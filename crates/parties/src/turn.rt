@@ -92,7 +92,7 @@ fn its_circuit<'a>(side: &Side, turn: bool, circuit: &'a [u8]) -> Result<Circuit
 fn bits_at<L: Label>(a: Arrays, g: u16) -> usize
     requires there { g < a.sizes.gates }
     requires whole { (Whole (parts_in a)) × (known (form_of (parts_in a) g) ≡ true) }
-    ensures bits { result ≡ gate_bits (8 * kind.width) (form_of (parts_in a.entry) g) }
+    ensures bits { result ≡ gate_bits (8 * L.kind.width) (form_of (parts_in a.entry) g) }
     ensures few { result ≤ 2 ^ 23 }
 {
     form_bits(8 * L::width(), word_at(a.forms, usize::from(g)))
@@ -109,7 +109,7 @@ pub fn may_step<'a, L: Label>(
 ) -> Result<(Arrays<'a>, usize), Refusal>
     requires within { Within side.now }
     requires left { turn ≡ true → side.now.next < side.now.sizes.gates }
-    ensures { MatchResult result (λ v. (step_refusal side.now circuit.now kind turn wires scratch material ≡ None) × (parts_in v.0 ≡ parts_of circuit.now) × StepReady kind side.now (parts_in v.0) v.1 wires scratch material) (λ why. step_refusal side.now circuit.now kind turn wires scratch material ≡ Some why) }
+    ensures { MatchResult result (λ v. (step_refusal side.now circuit.now L.kind turn wires scratch material ≡ None) × (parts_in v.0 ≡ parts_of circuit.now) × StepReady L.kind side.now (parts_in v.0) v.1 wires scratch material) (λ why. step_refusal side.now circuit.now L.kind turn wires scratch material ≡ Some why) }
 {
     let c = its_circuit(side, turn, circuit)?;
     if wires < usize::from(c.wires) || scratch < 256 {

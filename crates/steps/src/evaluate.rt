@@ -39,12 +39,12 @@ fn evaluate_and<L: Label, H: LabelHash<L>>(
     requires shaped { length operands.now ≡ 4 }
     requires order { all_below (word_at operands.now) 2 wires.old.made ≡ true }
     requires room { wires.old.made < length wires.old.values.now }
-    requires lent { length material.now ≡ 2 * kind.width }
+    requires lent { length material.now ≡ 2 * L.kind.width }
     ensures made { wires.new.made ≡ wires.old.made + 1 }
-    ensures grown { Grown wires.old.made 1 (λ _. joined kind (means h.old) gate (kind.from (part 0 kind.width material.now)) (kind.from (part kind.width kind.width material.now)) (places kind wires.old.values.now (word_at operands.now 0)) (places kind wires.old.values.now (word_at operands.now 1))) wires.old.values.now wires.new.values.now }
+    ensures grown { Grown wires.old.made 1 (λ _. joined L.kind (H.means h.old) gate (L.kind.from (part 0 L.kind.width material.now)) (L.kind.from (part L.kind.width L.kind.width material.now)) (places L.kind wires.old.values.now (word_at operands.now 0)) (places L.kind wires.old.values.now (word_at operands.now 1))) wires.old.values.now wires.new.values.now }
     ensures same { wires.new.values.ghost_name ≡ wires.old.values.ghost_name }
-    ensures kept { means h.new ≡ means h.old }
-    ensures count { calls h.new ≡ counted (calls h.old) 2 }
+    ensures kept { H.means h.new ≡ H.means h.old }
+    ensures count { H.calls h.new ≡ counted (H.calls h.old) 2 }
 {
     let a = operand(wires, operands, 0);
     let b = operand(wires, operands, 1);
@@ -68,13 +68,13 @@ fn evaluate_through<L: Label, H: LabelHash<L>>(
     requires sizes { (m ≤ 16) × ((1 ≤ length operands.now / 2) × ((length operands.now / 2 ≤ 8) × (length labels.old ≡ 8))) }
     requires order { all_below (word_at operands.now) (length operands.now / 2) wires.old.made ≡ true }
     requires room { wires.old.made + m ≤ length wires.old.values.now }
-    requires lent { (length material.now ≡ bytes_of kind.width (length operands.now / 2) m) × (256 ≤ length scratch.old) }
+    requires lent { (length material.now ≡ bytes_of L.kind.width (length operands.now / 2) m) × (256 ≤ length scratch.old) }
     ensures made { wires.new.made ≡ wires.old.made + m }
-    ensures grown { Grown wires.old.made m (places kind (evaluated kind (means h.old) gate (length operands.now / 2) m material.now (places kind (listed (length operands.now / 2) (λ i. places kind wires.old.values.now (word_at operands.now i)))))) wires.old.values.now wires.new.values.now }
+    ensures grown { Grown wires.old.made m (places L.kind (evaluated L.kind (H.means h.old) gate (length operands.now / 2) m material.now (places L.kind (listed (length operands.now / 2) (λ i. places L.kind wires.old.values.now (word_at operands.now i)))))) wires.old.values.now wires.new.values.now }
     ensures same { wires.new.values.ghost_name ≡ wires.old.values.ghost_name }
-    ensures scratch { scratch.new ≡ replicate (length scratch.old) kind.zero }
-    ensures kept { means h.new ≡ means h.old }
-    ensures count { calls h.new ≡ counted (calls h.old) (evaluator_calls (length operands.now / 2) m) }
+    ensures scratch { scratch.new ≡ replicate (length scratch.old) L.kind.zero }
+    ensures kept { H.means h.new ≡ H.means h.old }
+    ensures count { H.calls h.new ≡ counted (H.calls h.old) (evaluator_calls (length operands.now / 2) m) }
 {
     let n = operands.len() / 2;
     read_operands(wires, operands, labels);
@@ -104,13 +104,13 @@ fn evaluate_table<L: Label, H: LabelHash<L>>(
     requires sizes { (m ≤ 16) × ((1 ≤ length operands.now / 2) × (length operands.now / 2 ≤ 8)) }
     requires order { all_below (word_at operands.now) (length operands.now / 2) wires.old.made ≡ true }
     requires room { wires.old.made + m ≤ length wires.old.values.now }
-    requires lent { (length material.now ≡ bytes_of kind.width (length operands.now / 2) m) × (256 ≤ length scratch.old) }
+    requires lent { (length material.now ≡ bytes_of L.kind.width (length operands.now / 2) m) × (256 ≤ length scratch.old) }
     ensures made { wires.new.made ≡ wires.old.made + m }
-    ensures grown { Grown wires.old.made m (places kind (evaluated kind (means h.old) gate (length operands.now / 2) m material.now (places kind (listed (length operands.now / 2) (λ i. places kind wires.old.values.now (word_at operands.now i)))))) wires.old.values.now wires.new.values.now }
+    ensures grown { Grown wires.old.made m (places L.kind (evaluated L.kind (H.means h.old) gate (length operands.now / 2) m material.now (places L.kind (listed (length operands.now / 2) (λ i. places L.kind wires.old.values.now (word_at operands.now i)))))) wires.old.values.now wires.new.values.now }
     ensures same { wires.new.values.ghost_name ≡ wires.old.values.ghost_name }
-    ensures scratch { scratch.new ≡ replicate (length scratch.old) kind.zero }
-    ensures kept { means h.new ≡ means h.old }
-    ensures count { calls h.new ≡ counted (calls h.old) (evaluator_calls (length operands.now / 2) m) }
+    ensures scratch { scratch.new ≡ replicate (length scratch.old) L.kind.zero }
+    ensures kept { H.means h.new ≡ H.means h.old }
+    ensures count { H.calls h.new ≡ counted (H.calls h.old) (evaluator_calls (length operands.now / 2) m) }
 {
     eight_fit(scratch);
     let mut labels = [L::zero(); 8];
@@ -130,13 +130,13 @@ pub fn evaluate_gate<L: Label, H: LabelHash<L>>(
     requires passes { (Whole (parts_in a)) × (gates_refusal (parts_in a) a.sizes.gates ≡ None) }
     requires made { wires.old.made ≡ made_before (parts_in a) g }
     requires room { wires_in (parts_in a) ≤ length wires.old.values.now }
-    requires lent { (length material.now ≡ gate_bytes (8 * kind.width) (form_of (parts_in a) g)) × (256 ≤ length scratch.old) }
+    requires lent { (length material.now ≡ gate_bytes (8 * L.kind.width) (form_of (parts_in a) g)) × (256 ≤ length scratch.old) }
     ensures made { wires.new.made ≡ made_before (parts_in a.entry) (suc g) }
-    ensures grown { Grown (made_before (parts_in a.entry) g) (makes (form_of (parts_in a.entry) g)) (places kind (new_labels (parts_in a.entry) g kind (places kind wires.old.values.now) (means h.old) material.now)) wires.old.values.now wires.new.values.now }
+    ensures grown { Grown (made_before (parts_in a.entry) g) (makes (form_of (parts_in a.entry) g)) (places L.kind (new_labels (parts_in a.entry) g L.kind (places L.kind wires.old.values.now) (H.means h.old) material.now)) wires.old.values.now wires.new.values.now }
     ensures same { wires.new.values.ghost_name ≡ wires.old.values.ghost_name }
-    ensures scratch { scratch.new ≡ replicate (length scratch.old) kind.zero }
-    ensures kept { means h.new ≡ means h.old }
-    ensures count { calls h.new ≡ counted (calls h.old) (evaluate_calls (parts_in a.entry) g) }
+    ensures scratch { scratch.new ≡ replicate (length scratch.old) L.kind.zero }
+    ensures kept { H.means h.new ≡ H.means h.old }
+    ensures count { H.calls h.new ≡ counted (H.calls h.old) (evaluate_calls (parts_in a.entry) g) }
 {
     match passed_gate(a, g) {
         Gate::Xor { operands } => {

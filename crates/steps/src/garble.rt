@@ -39,13 +39,13 @@ fn garble_and<L: Label, H: LabelHash<L>>(
     requires shaped { length operands.now ≡ 4 }
     requires order { all_below (word_at operands.now) 2 wires.old.made ≡ true }
     requires room { wires.old.made < length wires.old.values.now }
-    requires part { length material.old ≡ 2 * kind.width }
+    requires part { length material.old ≡ 2 * L.kind.width }
     ensures made { wires.new.made ≡ wires.old.made + 1 }
-    ensures grown { Grown wires.old.made 1 (λ _. (garbled kind (means h.old) gate offset (places kind wires.old.values.now (word_at operands.now 0)) (places kind wires.old.values.now (word_at operands.now 1))).2) wires.old.values.now wires.new.values.now }
+    ensures grown { Grown wires.old.made 1 (λ _. (garbled L.kind (H.means h.old) gate offset (places L.kind wires.old.values.now (word_at operands.now 0)) (places L.kind wires.old.values.now (word_at operands.now 1))).2) wires.old.values.now wires.new.values.now }
     ensures same { wires.new.values.ghost_name ≡ wires.old.values.ghost_name }
-    ensures material { material.new ≡ kind.bytes (garbled kind (means h.old) gate offset (places kind wires.old.values.now (word_at operands.now 0)) (places kind wires.old.values.now (word_at operands.now 1))).0 ++ kind.bytes (garbled kind (means h.old) gate offset (places kind wires.old.values.now (word_at operands.now 0)) (places kind wires.old.values.now (word_at operands.now 1))).1 }
-    ensures kept { means h.new ≡ means h.old }
-    ensures count { calls h.new ≡ counted (calls h.old) 4 }
+    ensures material { material.new ≡ L.kind.bytes (garbled L.kind (H.means h.old) gate offset (places L.kind wires.old.values.now (word_at operands.now 0)) (places L.kind wires.old.values.now (word_at operands.now 1))).0 ++ L.kind.bytes (garbled L.kind (H.means h.old) gate offset (places L.kind wires.old.values.now (word_at operands.now 0)) (places L.kind wires.old.values.now (word_at operands.now 1))).1 }
+    ensures kept { H.means h.new ≡ H.means h.old }
+    ensures count { H.calls h.new ≡ counted (H.calls h.old) 4 }
 {
     let a = operand(wires, operands, 0);
     let b = operand(wires, operands, 1);
@@ -72,14 +72,14 @@ fn garble_through<L: Label, H: LabelHash<L>>(
     requires sizes { (gate < 512) × ((m ≤ 16) × ((1 ≤ length operands.now / 2) × ((length operands.now / 2 ≤ 8) × (length zeros.old ≡ 8)))) }
     requires order { all_below (word_at operands.now) (length operands.now / 2) wires.old.made ≡ true }
     requires room { wires.old.made + m ≤ length wires.old.values.now }
-    requires lent { (length rows.now ≡ 2 * 2 ^ (length operands.now / 2)) × ((length material.old ≡ bytes_of kind.width (length operands.now / 2) m) × (256 ≤ length scratch.old)) }
+    requires lent { (length rows.now ≡ 2 * 2 ^ (length operands.now / 2)) × ((length material.old ≡ bytes_of L.kind.width (length operands.now / 2) m) × (256 ≤ length scratch.old)) }
     ensures made { wires.new.made ≡ wires.old.made + m }
-    ensures grown { Grown wires.old.made m (places kind (zeros_for kind (means h.old) gate seed offset (listed (length operands.now / 2) (λ i. places kind wires.old.values.now (word_at operands.now i))) rows.now m)) wires.old.values.now wires.new.values.now }
+    ensures grown { Grown wires.old.made m (places L.kind (zeros_for L.kind (H.means h.old) gate seed offset (listed (length operands.now / 2) (λ i. places L.kind wires.old.values.now (word_at operands.now i))) rows.now m)) wires.old.values.now wires.new.values.now }
     ensures same { wires.new.values.ghost_name ≡ wires.old.values.ghost_name }
-    ensures material { material.new ≡ material_for kind (means h.old) gate seed offset (listed (length operands.now / 2) (λ i. places kind wires.old.values.now (word_at operands.now i))) rows.now m }
-    ensures scratch { scratch.new ≡ replicate (length scratch.old) kind.zero }
-    ensures kept { means h.new ≡ means h.old }
-    ensures count { calls h.new ≡ counted (calls h.old) (garbler_calls (length operands.now / 2) m) }
+    ensures material { material.new ≡ material_for L.kind (H.means h.old) gate seed offset (listed (length operands.now / 2) (λ i. places L.kind wires.old.values.now (word_at operands.now i))) rows.now m }
+    ensures scratch { scratch.new ≡ replicate (length scratch.old) L.kind.zero }
+    ensures kept { H.means h.new ≡ H.means h.old }
+    ensures count { H.calls h.new ≡ counted (H.calls h.old) (garbler_calls (length operands.now / 2) m) }
 {
     let n = operands.len() / 2;
     read_operands(wires, operands, zeros);
@@ -115,14 +115,14 @@ fn garble_table<L: Label, H: LabelHash<L>>(
     requires sizes { (gate < 512) × ((m ≤ 16) × ((1 ≤ length operands.now / 2) × (length operands.now / 2 ≤ 8))) }
     requires order { all_below (word_at operands.now) (length operands.now / 2) wires.old.made ≡ true }
     requires room { wires.old.made + m ≤ length wires.old.values.now }
-    requires lent { (length rows.now ≡ 2 * 2 ^ (length operands.now / 2)) × ((length material.old ≡ bytes_of kind.width (length operands.now / 2) m) × (256 ≤ length scratch.old)) }
+    requires lent { (length rows.now ≡ 2 * 2 ^ (length operands.now / 2)) × ((length material.old ≡ bytes_of L.kind.width (length operands.now / 2) m) × (256 ≤ length scratch.old)) }
     ensures made { wires.new.made ≡ wires.old.made + m }
-    ensures grown { Grown wires.old.made m (places kind (zeros_for kind (means h.old) gate seed offset (listed (length operands.now / 2) (λ i. places kind wires.old.values.now (word_at operands.now i))) rows.now m)) wires.old.values.now wires.new.values.now }
+    ensures grown { Grown wires.old.made m (places L.kind (zeros_for L.kind (H.means h.old) gate seed offset (listed (length operands.now / 2) (λ i. places L.kind wires.old.values.now (word_at operands.now i))) rows.now m)) wires.old.values.now wires.new.values.now }
     ensures same { wires.new.values.ghost_name ≡ wires.old.values.ghost_name }
-    ensures material { material.new ≡ material_for kind (means h.old) gate seed offset (listed (length operands.now / 2) (λ i. places kind wires.old.values.now (word_at operands.now i))) rows.now m }
-    ensures scratch { scratch.new ≡ replicate (length scratch.old) kind.zero }
-    ensures kept { means h.new ≡ means h.old }
-    ensures count { calls h.new ≡ counted (calls h.old) (garbler_calls (length operands.now / 2) m) }
+    ensures material { material.new ≡ material_for L.kind (H.means h.old) gate seed offset (listed (length operands.now / 2) (λ i. places L.kind wires.old.values.now (word_at operands.now i))) rows.now m }
+    ensures scratch { scratch.new ≡ replicate (length scratch.old) L.kind.zero }
+    ensures kept { H.means h.new ≡ H.means h.old }
+    ensures count { H.calls h.new ≡ counted (H.calls h.old) (garbler_calls (length operands.now / 2) m) }
 {
     eight_fit(scratch);
     let mut zeros = [L::zero(); 8];
@@ -146,14 +146,14 @@ pub fn garble_gate<L: Label, H: LabelHash<L>>(
     requires passes { (Whole (parts_in a)) × (gates_refusal (parts_in a) a.sizes.gates ≡ None) }
     requires made { wires.old.made ≡ made_before (parts_in a) g }
     requires room { wires_in (parts_in a) ≤ length wires.old.values.now }
-    requires lent { (length material.old ≡ gate_bytes (8 * kind.width) (form_of (parts_in a) g)) × (256 ≤ length scratch.old) }
+    requires lent { (length material.old ≡ gate_bytes (8 * L.kind.width) (form_of (parts_in a) g)) × (256 ≤ length scratch.old) }
     ensures made { wires.new.made ≡ made_before (parts_in a.entry) (suc g) }
-    ensures grown { Grown (made_before (parts_in a.entry) g) (makes (form_of (parts_in a.entry) g)) (places kind (new_zeros (parts_in a.entry) g kind (places kind wires.old.values.now) (means h.old) seed offset)) wires.old.values.now wires.new.values.now }
+    ensures grown { Grown (made_before (parts_in a.entry) g) (makes (form_of (parts_in a.entry) g)) (places L.kind (new_zeros (parts_in a.entry) g L.kind (places L.kind wires.old.values.now) (H.means h.old) seed offset)) wires.old.values.now wires.new.values.now }
     ensures same { wires.new.values.ghost_name ≡ wires.old.values.ghost_name }
-    ensures material { material.new ≡ gate_material (parts_in a.entry) g kind (places kind wires.old.values.now) (means h.old) seed offset }
-    ensures scratch { scratch.new ≡ replicate (length scratch.old) kind.zero }
-    ensures kept { means h.new ≡ means h.old }
-    ensures count { calls h.new ≡ counted (calls h.old) (garble_calls (parts_in a.entry) g) }
+    ensures material { material.new ≡ gate_material (parts_in a.entry) g L.kind (places L.kind wires.old.values.now) (H.means h.old) seed offset }
+    ensures scratch { scratch.new ≡ replicate (length scratch.old) L.kind.zero }
+    ensures kept { H.means h.new ≡ H.means h.old }
+    ensures count { H.calls h.new ≡ counted (H.calls h.old) (garble_calls (parts_in a.entry) g) }
 {
     match passed_gate(a, g) {
         Gate::Xor { operands } => {

@@ -14,7 +14,7 @@ pub fn operand<L: Label>(wires: &Wires<L>, operands: &[u8], j: usize) -> L
     requires there { 2 * j + 1 < length operands.now }
     requires order { word_at operands.now j < wires.now.made }
     requires room { wires.now.made ≤ length wires.now.values.now }
-    ensures { result ≡ places kind wires.now.values.now (word_at operands.now j) }
+    ensures { result ≡ places L.kind wires.now.values.now (word_at operands.now j) }
 {
     wires.read(word_at(operands, j))
 }
@@ -38,7 +38,7 @@ pub fn read_operands<L: Label>(wires: &Wires<L>, operands: &[u8], out: &mut [L])
     requires long { length operands.now / 2 ≤ length out.old }
     requires order { all_below (word_at operands.now) (length operands.now / 2) wires.now.made ≡ true }
     requires room { wires.now.made ≤ length wires.now.values.now }
-    ensures { take (length operands.now / 2) out.new ≡ listed (length operands.now / 2) (λ i. places kind wires.now.values.now (word_at operands.now i)) }
+    ensures { take (length operands.now / 2) out.new ≡ listed (length operands.now / 2) (λ i. places L.kind wires.now.values.now (word_at operands.now i)) }
 {
     for j in 0..operands.len() / 2 {
         let x = operand(wires, operands, j);

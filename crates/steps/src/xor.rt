@@ -15,7 +15,7 @@ pub fn xor_wire<L: Label>(wires: &mut Wires<L>, operands: &[u8])
     requires order { all_below (word_at operands.now) 2 wires.old.made ≡ true }
     requires room { wires.old.made < length wires.old.values.now }
     ensures made { wires.new.made ≡ wires.old.made + 1 }
-    ensures grown { Grown wires.old.made 1 (λ _. kind.xor (places kind wires.old.values.now (word_at operands.now 0)) (places kind wires.old.values.now (word_at operands.now 1))) wires.old.values.now wires.new.values.now }
+    ensures grown { Grown wires.old.made 1 (λ _. L.kind.xor (places L.kind wires.old.values.now (word_at operands.now 0)) (places L.kind wires.old.values.now (word_at operands.now 1))) wires.old.values.now wires.new.values.now }
     ensures same { wires.new.values.ghost_name ≡ wires.old.values.ghost_name }
 {
     let a = operand(wires, operands, 0);

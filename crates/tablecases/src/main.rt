@@ -29,7 +29,7 @@ fn extend(digest: u64, bytes: &[u8]) -> u64 {
 
 // A digest and the label that follows, written into lent bytes.
 fn extend_through<L: Label>(digest: u64, label: L, bytes: &mut [u8]) -> u64
-    requires { length bytes.old ≡ kind.width }
+    requires { length bytes.old ≡ L.kind.width }
 {
     label.write(bytes);
     extend(digest, bytes)
@@ -37,14 +37,14 @@ fn extend_through<L: Label>(digest: u64, label: L, bytes: &mut [u8]) -> u64
 
 // A digest and the label that follows.
 fn extend_by_label<L: Label>(digest: u64, label: L) -> u64
-    requires { kind.width ≤ 16 }
+    requires { L.kind.width ≤ 16 }
 {
     let mut bytes = [0u8; 16];
     extend_through(digest, label, &mut bytes[0..L::width()])
 }
 
 fn digest_labels<L: Label>(labels: &[L]) -> u64
-    requires { kind.width ≤ 16 }
+    requires { L.kind.width ≤ 16 }
 {
     let mut d = EMPTY;
     for x in labels {
@@ -67,14 +67,14 @@ fn fill_seed(n: usize, m: usize, bytes: &mut [u8])
 
 // The seed of a case, through lent bytes.
 fn seed_through<L: Label>(n: usize, m: usize, bytes: &mut [u8]) -> L
-    requires { (length bytes.old ≡ kind.width) × ((kind.width ≤ 16) × ((n ≤ 8) × (m ≤ 16))) }
+    requires { (length bytes.old ≡ L.kind.width) × ((L.kind.width ≤ 16) × ((n ≤ 8) × (m ≤ 16))) }
 {
     fill_seed(n, m, bytes);
     L::read(bytes)
 }
 
 fn seed_for<L: Label>(n: usize, m: usize) -> L
-    requires { (kind.width ≤ 16) × ((n ≤ 8) × (m ≤ 16)) }
+    requires { (L.kind.width ≤ 16) × ((n ≤ 8) × (m ≤ 16)) }
 {
     let mut bytes = [0u8; 16];
     seed_through(n, m, &mut bytes[0..L::width()])
@@ -140,7 +140,7 @@ fn run<L: Label, H: LabelHash<L>>(
     found: &mut [L],
 ) -> Result<(), Error>
     requires sizes { (1 ≤ length zeros.old) × ((length zeros.old ≤ 8) × ((length new.old ≤ 16) × ((length labels.old ≡ length zeros.old) × (length found.old ≡ length new.old)))) }
-    requires lent { (kind.width ≤ 16) × ((length rows.old ≡ 2 * 2 ^ length zeros.old) × ((length rows.old ≤ 512) × ((length material.old ≡ bytes_of kind.width (length zeros.old) (length new.old)) × (256 ≤ length scratch.old)))) }
+    requires lent { (L.kind.width ≤ 16) × ((length rows.old ≡ 2 * 2 ^ length zeros.old) × ((length rows.old ≤ 512) × ((length material.old ≡ bytes_of L.kind.width (length zeros.old) (length new.old)) × (256 ≤ length scratch.old)))) }
 {
     let n = zeros.len();
     let m = new.len();
@@ -177,7 +177,7 @@ fn case<L: Label, H: LabelHash<L>>(
     new: &mut [L],
     found: &mut [L],
 ) -> Result<(), Error>
-    requires sizes { (kind.width ≤ 16) × ((1 ≤ n) × ((n ≤ 8) × (m ≤ 16))) }
+    requires sizes { (L.kind.width ≤ 16) × ((1 ≤ n) × ((n ≤ 8) × (m ≤ 16))) }
     requires lent { (8 ≤ length zeros.old) × ((8 ≤ length labels.old) × ((256 ≤ length scratch.old) × ((16 ≤ length new.old) × (16 ≤ length found.old)))) }
 {
     let mut rows = [0u8; 512];

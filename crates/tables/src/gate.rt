@@ -35,12 +35,12 @@ fn garble_labels<L: Label, H: LabelHash<L>>(
     material: &mut [u8],
 )
     requires small { (m ≤ 16) × ((length new.old ≡ m) × ((1 ≤ length zeros.now) × (length zeros.now ≤ 8))) }
-    requires long { (256 ≤ length v.old) × ((length fs.old ≡ 256) × ((length rows.now ≡ 2 * 2 ^ length zeros.now) × (labels_of (length zeros.now) m * kind.width ≤ length material.old))) }
-    ensures news { Holds kind m (made kind (means h.old) gate m (length zeros.now) s offset (places kind zeros.now) (row_word rows.now)) new.new }
-    ensures hots { (k : ℕ) → k < length zeros.now - 1 → row_bytes kind k material.new ≡ kind.bytes (hot_row kind (means h.old) gate offset (λ k. based kind offset (places kind zeros.now k)) (suc k)) }
-    ensures masks { (d : ℕ) → d < length zeros.now → (j : ℕ) → j < m → row_bytes kind (length zeros.now - 1 + (d * m + j)) material.new ≡ kind.bytes (mask_row kind (means h.old) gate m (length zeros.now) offset (λ k. based kind offset (places kind zeros.now k)) (hot kind (means h.old) gate offset (λ k. based kind offset (places kind zeros.now k)) (length zeros.now)) d j) }
-    ensures turns { (i : ℕ) → i < 2 ^ length zeros.now → slice_index fs.new i ≡ turned kind (means h.old) gate m (length zeros.now) s offset (λ k. based kind offset (places kind zeros.now k)) (row_word rows.now) (of-colours kind (length zeros.now) (places kind zeros.now)) i }
-    ensures ran { Ran (means h.old) (means h.new) (calls h.old) (calls h.new) (3 * 2 ^ length zeros.now - 4 + 2 * (length zeros.now * m)) }
+    requires long { (256 ≤ length v.old) × ((length fs.old ≡ 256) × ((length rows.now ≡ 2 * 2 ^ length zeros.now) × (labels_of (length zeros.now) m * L.kind.width ≤ length material.old))) }
+    ensures news { Holds L.kind m (made L.kind (H.means h.old) gate m (length zeros.now) s offset (places L.kind zeros.now) (row_word rows.now)) new.new }
+    ensures hots { (k : ℕ) → k < length zeros.now - 1 → row_bytes L.kind k material.new ≡ L.kind.bytes (hot_row L.kind (H.means h.old) gate offset (λ k. based L.kind offset (places L.kind zeros.now k)) (suc k)) }
+    ensures masks { (d : ℕ) → d < length zeros.now → (j : ℕ) → j < m → row_bytes L.kind (length zeros.now - 1 + (d * m + j)) material.new ≡ L.kind.bytes (mask_row L.kind (H.means h.old) gate m (length zeros.now) offset (λ k. based L.kind offset (places L.kind zeros.now k)) (hot L.kind (H.means h.old) gate offset (λ k. based L.kind offset (places L.kind zeros.now k)) (length zeros.now)) d j) }
+    ensures turns { (i : ℕ) → i < 2 ^ length zeros.now → slice_index fs.new i ≡ turned L.kind (H.means h.old) gate m (length zeros.now) s offset (λ k. based L.kind offset (places L.kind zeros.now k)) (row_word rows.now) (of-colours L.kind (length zeros.now) (places L.kind zeros.now)) i }
+    ensures ran { Ran (H.means h.old) (H.means h.new) (H.calls h.old) (H.calls h.new) (3 * 2 ^ length zeros.now - 4 + 2 * (length zeros.now * m)) }
 {
     let n = zeros.len();
     let w = 1 << n;
@@ -66,11 +66,11 @@ fn garble_uncleared<L: Label, H: LabelHash<L>>(
     new: &mut [L],
 )
     requires sizes { (gate < 512) × ((1 ≤ length zeros.now) × ((length zeros.now ≤ 8) × (length new.old ≤ 16))) }
-    requires lent { (length rows.now ≡ 2 * 2 ^ length zeros.now) × ((length material.old ≡ bytes_of kind.width (length zeros.now) (length new.old)) × (256 ≤ length scratch.old)) }
-    ensures material { material.new ≡ material_for kind (means h.old) gate seed offset zeros.now rows.now (length new.old) }
-    ensures news { new.new ≡ zeros_for kind (means h.old) gate seed offset zeros.now rows.now (length new.old) }
-    ensures kept { means h.new ≡ means h.old }
-    ensures count { calls h.new ≡ counted (calls h.old) (garbler_calls (length zeros.now) (length new.old)) }
+    requires lent { (length rows.now ≡ 2 * 2 ^ length zeros.now) × ((length material.old ≡ bytes_of L.kind.width (length zeros.now) (length new.old)) × (256 ≤ length scratch.old)) }
+    ensures material { material.new ≡ material_for L.kind (H.means h.old) gate seed offset zeros.now rows.now (length new.old) }
+    ensures news { new.new ≡ zeros_for L.kind (H.means h.old) gate seed offset zeros.now rows.now (length new.old) }
+    ensures kept { H.means h.new ≡ H.means h.old }
+    ensures count { H.calls h.new ≡ counted (H.calls h.old) (garbler_calls (length zeros.now) (length new.old)) }
 {
     let n = zeros.len();
     let m = new.len();
@@ -96,12 +96,12 @@ pub fn garble<L: Label, H: LabelHash<L>>(
     new: &mut [L],
 )
     requires sizes { (gate < 512) × ((1 ≤ length zeros.now) × ((length zeros.now ≤ 8) × (length new.old ≤ 16))) }
-    requires lent { (length rows.now ≡ 2 * 2 ^ length zeros.now) × ((length material.old ≡ bytes_of kind.width (length zeros.now) (length new.old)) × (256 ≤ length scratch.old)) }
-    ensures material { material.new ≡ material_for kind (means h.old) gate seed offset zeros.now rows.now (length new.old) }
-    ensures news { new.new ≡ zeros_for kind (means h.old) gate seed offset zeros.now rows.now (length new.old) }
-    ensures scratch { scratch.new ≡ replicate (length scratch.old) kind.zero }
-    ensures kept { means h.new ≡ means h.old }
-    ensures count { calls h.new ≡ counted (calls h.old) (garbler_calls (length zeros.now) (length new.old)) }
+    requires lent { (length rows.now ≡ 2 * 2 ^ length zeros.now) × ((length material.old ≡ bytes_of L.kind.width (length zeros.now) (length new.old)) × (256 ≤ length scratch.old)) }
+    ensures material { material.new ≡ material_for L.kind (H.means h.old) gate seed offset zeros.now rows.now (length new.old) }
+    ensures news { new.new ≡ zeros_for L.kind (H.means h.old) gate seed offset zeros.now rows.now (length new.old) }
+    ensures scratch { scratch.new ≡ replicate (length scratch.old) L.kind.zero }
+    ensures kept { H.means h.new ≡ H.means h.old }
+    ensures count { H.calls h.new ≡ counted (H.calls h.old) (garbler_calls (length zeros.now) (length new.old)) }
 {
     garble_uncleared(h, gate, seed, offset, zeros, rows, material, scratch, new);
     clear(scratch);
@@ -117,11 +117,11 @@ fn evaluate_uncleared<L: Label, H: LabelHash<L>>(
     new: &mut [L],
 )
     requires sizes { (1 ≤ length labels.now) × ((length labels.now ≤ 8) × (length new.old ≤ 16)) }
-    requires lent { (length material.now ≡ bytes_of kind.width (length labels.now) (length new.old)) × (256 ≤ length scratch.old) }
-    ensures news { new.new ≡ evaluated kind (means h.old) gate (length labels.now) (length new.old) material.now (places kind labels.now) }
-    ensures meets { Meets kind (means h.old) gate (length labels.now) (length new.old) material.now (places kind labels.now) new.new }
-    ensures kept { means h.new ≡ means h.old }
-    ensures count { calls h.new ≡ counted (calls h.old) (evaluator_calls (length labels.now) (length new.old)) }
+    requires lent { (length material.now ≡ bytes_of L.kind.width (length labels.now) (length new.old)) × (256 ≤ length scratch.old) }
+    ensures news { new.new ≡ evaluated L.kind (H.means h.old) gate (length labels.now) (length new.old) material.now (places L.kind labels.now) }
+    ensures meets { Meets L.kind (H.means h.old) gate (length labels.now) (length new.old) material.now (places L.kind labels.now) new.new }
+    ensures kept { H.means h.new ≡ H.means h.old }
+    ensures count { H.calls h.new ≡ counted (H.calls h.old) (evaluator_calls (length labels.now) (length new.old)) }
 {
     let n = labels.len();
     let m = new.len();
@@ -144,12 +144,12 @@ pub fn evaluate<L: Label, H: LabelHash<L>>(
     new: &mut [L],
 )
     requires sizes { (1 ≤ length labels.now) × ((length labels.now ≤ 8) × (length new.old ≤ 16)) }
-    requires lent { (length material.now ≡ bytes_of kind.width (length labels.now) (length new.old)) × (256 ≤ length scratch.old) }
-    ensures news { new.new ≡ evaluated kind (means h.old) gate (length labels.now) (length new.old) material.now (places kind labels.now) }
-    ensures meets { Meets kind (means h.old) gate (length labels.now) (length new.old) material.now (places kind labels.now) new.new }
-    ensures scratch { scratch.new ≡ replicate (length scratch.old) kind.zero }
-    ensures kept { means h.new ≡ means h.old }
-    ensures count { calls h.new ≡ counted (calls h.old) (evaluator_calls (length labels.now) (length new.old)) }
+    requires lent { (length material.now ≡ bytes_of L.kind.width (length labels.now) (length new.old)) × (256 ≤ length scratch.old) }
+    ensures news { new.new ≡ evaluated L.kind (H.means h.old) gate (length labels.now) (length new.old) material.now (places L.kind labels.now) }
+    ensures meets { Meets L.kind (H.means h.old) gate (length labels.now) (length new.old) material.now (places L.kind labels.now) new.new }
+    ensures scratch { scratch.new ≡ replicate (length scratch.old) L.kind.zero }
+    ensures kept { H.means h.new ≡ H.means h.old }
+    ensures count { H.calls h.new ≡ counted (H.calls h.old) (evaluator_calls (length labels.now) (length new.old)) }
 {
     evaluate_uncleared(h, gate, labels, material, scratch, new);
     clear(scratch);
@@ -158,7 +158,7 @@ pub fn evaluate<L: Label, H: LabelHash<L>>(
 // Whoever holds the labels of the operands' bits gets those of the new wires' bits, at each of the three gates:
 // for every label kind and every F.
 pub fn gates_stand<L: Label>() -> u8
-    ensures { Sound kind }
+    ensures { Sound L.kind }
 {
     0
 }

@@ -18,7 +18,7 @@ use labels::kind::Label;
 // V[i] becomes V[i] ⊕ V[i + w], for the i below w.
 fn halve<L: Label>(v: &mut [L], w: usize)
     requires { w + w ≤ length v.old }
-    ensures { Holds kind w (λ i. kind.xor (places kind v.old i) (places kind v.old (i + w))) v.new }
+    ensures { Holds L.kind w (λ i. L.kind.xor (places L.kind v.old i) (places L.kind v.old (i + w))) v.new }
 {
     for i in 0..w {
         v[i] = v[i].xor(v[i + w]);
@@ -40,8 +40,8 @@ fn mask<L: Label, H: LabelHash<L>>(
 ) -> L
     requires small { (j < 16) × (l ≤ 8) }
     requires long { (from + w ≤ length nums.now) × (w + w ≤ length v.now) }
-    ensures answer { result ≡ masked kind (means h.old) gate l w (λ i. slice_index nums.now (from + i)) key b (places kind v.now) j }
-    ensures ran { Ran (means h.old) (means h.new) (calls h.old) (calls h.new) 1 }
+    ensures answer { result ≡ masked L.kind (H.means h.old) gate l w (λ i. slice_index nums.now (from + i)) key b (places L.kind v.now) j }
+    ensures ran { Ran (H.means h.old) (H.means h.new) (H.calls h.old) (H.calls h.new) 1 }
 {
     let some = gather(j, nums, from, v, weight(b, w), w);
     some.xor(h.hash(key, tweak(gate, 512 + 16 * l + j)))
@@ -63,11 +63,11 @@ fn garble_level<L: Label, H: LabelHash<L>>(
     at: usize,
 )
     requires small { (length new.old ≤ 16) × (l ≤ 8) }
-    requires long { (from + w + w ≤ length nums.now) × ((w + w ≤ length v.now) × ((at + length new.old) * kind.width ≤ length material.old)) }
-    ensures news { Holds kind (length new.old) (λ j. kind.xor (places kind new.old j) (level kind (means h.old) gate l w offset key (λ i. slice_index nums.now (from + i)) (places kind v.now) false j)) new.new }
-    ensures row { (j : ℕ) → j < length new.old → row_bytes kind (at + j) material.new ≡ kind.bytes (kind.xor (level kind (means h.old) gate l w offset key (λ i. slice_index nums.now (from + i)) (places kind v.now) false j) (level kind (means h.old) gate l w offset key (λ i. slice_index nums.now (from + i)) (places kind v.now) true j)) }
-    ensures before { (i : ℕ) → i < at → row_bytes kind i material.new ≡ row_bytes kind i material.old }
-    ensures ran { Ran (means h.old) (means h.new) (calls h.old) (calls h.new) (2 * length new.old) }
+    requires long { (from + w + w ≤ length nums.now) × ((w + w ≤ length v.now) × ((at + length new.old) * L.kind.width ≤ length material.old)) }
+    ensures news { Holds L.kind (length new.old) (λ j. L.kind.xor (places L.kind new.old j) (level L.kind (H.means h.old) gate l w offset key (λ i. slice_index nums.now (from + i)) (places L.kind v.now) false j)) new.new }
+    ensures row { (j : ℕ) → j < length new.old → row_bytes L.kind (at + j) material.new ≡ L.kind.bytes (L.kind.xor (level L.kind (H.means h.old) gate l w offset key (λ i. slice_index nums.now (from + i)) (places L.kind v.now) false j) (level L.kind (H.means h.old) gate l w offset key (λ i. slice_index nums.now (from + i)) (places L.kind v.now) true j)) }
+    ensures before { (i : ℕ) → i < at → row_bytes L.kind i material.new ≡ row_bytes L.kind i material.old }
+    ensures ran { Ran (H.means h.old) (H.means h.new) (H.calls h.old) (H.calls h.new) (2 * length new.old) }
 {
     let key0 = key.xor(times(false, offset));
     let key1 = key.xor(times(true, offset));
@@ -94,12 +94,12 @@ pub fn garble_levels<L: Label, H: LabelHash<L>>(
     first: usize,
 )
     requires small { (m ≤ 16) × ((length new.old ≡ m) × (length zeros.now ≤ 8)) }
-    requires long { (w ≡ 2 ^ length zeros.now) × ((w ≤ length v.old) × (((first + length zeros.now * m) * kind.width ≤ length material.old) × (w + w ≤ length nums.now))) }
-    requires there { Numbered kind (means h.old) gate m (length zeros.now) offset (λ k. based kind offset (places kind zeros.now k)) nums.now }
-    ensures news { Holds kind m (λ j. kind.xor (places kind new.old j) (sum kind (length zeros.now) (λ d. share-of kind (means h.old) gate m (length zeros.now) offset (λ k. based kind offset (places kind zeros.now k)) (places kind v.old) d false j))) new.new }
-    ensures rows { (d : ℕ) → d < length zeros.now → (j : ℕ) → j < m → row_bytes kind (first + (d * m + j)) material.new ≡ kind.bytes (mask_row kind (means h.old) gate m (length zeros.now) offset (λ k. based kind offset (places kind zeros.now k)) (places kind v.old) d j) }
-    ensures before { (i : ℕ) → i < first → row_bytes kind i material.new ≡ row_bytes kind i material.old }
-    ensures ran { Ran (means h.old) (means h.new) (calls h.old) (calls h.new) (2 * (length zeros.now * m)) }
+    requires long { (w ≡ 2 ^ length zeros.now) × ((w ≤ length v.old) × (((first + length zeros.now * m) * L.kind.width ≤ length material.old) × (w + w ≤ length nums.now))) }
+    requires there { Numbered L.kind (H.means h.old) gate m (length zeros.now) offset (λ k. based L.kind offset (places L.kind zeros.now k)) nums.now }
+    ensures news { Holds L.kind m (λ j. L.kind.xor (places L.kind new.old j) (sum L.kind (length zeros.now) (λ d. share-of L.kind (H.means h.old) gate m (length zeros.now) offset (λ k. based L.kind offset (places L.kind zeros.now k)) (places L.kind v.old) d false j))) new.new }
+    ensures rows { (d : ℕ) → d < length zeros.now → (j : ℕ) → j < m → row_bytes L.kind (first + (d * m + j)) material.new ≡ L.kind.bytes (mask_row L.kind (H.means h.old) gate m (length zeros.now) offset (λ k. based L.kind offset (places L.kind zeros.now k)) (places L.kind v.old) d j) }
+    ensures before { (i : ℕ) → i < first → row_bytes L.kind i material.new ≡ row_bytes L.kind i material.old }
+    ensures ran { Ran (H.means h.old) (H.means h.new) (H.calls h.old) (H.calls h.new) (2 * (length zeros.now * m)) }
 {
     let mut half = w;
     let mut at = first;
@@ -119,7 +119,7 @@ pub fn garble_levels<L: Label, H: LabelHash<L>>(
 
 // The evaluator's part: S(b,j) ⊕ M(b,j) ⊕ typeof.b.row.
 fn unmasked<L: Label>(b: bool, part: L, row: L) -> L
-    ensures { result ≡ kind.xor part (scaled kind b row) }
+    ensures { result ≡ L.kind.xor part (scaled L.kind b row) }
 {
     part.xor(times(b, row))
 }
@@ -138,9 +138,9 @@ fn evaluate_level<L: Label, H: LabelHash<L>>(
     at: usize,
 )
     requires small { (length new.old ≤ 16) × (l ≤ 8) }
-    requires long { (w ≤ length nums.now) × ((w + w ≤ length v.now) × ((at + length new.old) * kind.width ≤ length material.now)) }
-    ensures news { Holds kind (length new.old) (λ j. kind.xor (places kind new.old j) (kind.xor (masked kind (means h.old) gate l w (λ i. slice_index nums.now i) key (kind.colour key) (places kind v.now) j) (scaled kind (kind.colour key) (row_at kind material.now (at + j))))) new.new }
-    ensures ran { Ran (means h.old) (means h.new) (calls h.old) (calls h.new) (length new.old) }
+    requires long { (w ≤ length nums.now) × ((w + w ≤ length v.now) × ((at + length new.old) * L.kind.width ≤ length material.now)) }
+    ensures news { Holds L.kind (length new.old) (λ j. L.kind.xor (places L.kind new.old j) (L.kind.xor (masked L.kind (H.means h.old) gate l w (λ i. slice_index nums.now i) key (L.kind.colour key) (places L.kind v.now) j) (scaled L.kind (L.kind.colour key) (row_at L.kind material.now (at + j))))) new.new }
+    ensures ran { Ran (H.means h.old) (H.means h.new) (H.calls h.old) (H.calls h.new) (length new.old) }
 {
     let b = key.colour();
     for j in 0..new.len() {
@@ -164,10 +164,10 @@ fn evaluate_then_halve<L: Label, H: LabelHash<L>>(
     at: usize,
 )
     requires small { (length new.old ≤ 16) × (l ≤ 8) }
-    requires long { (w ≤ length nums.now) × ((w + w ≤ length v.old) × ((at + length new.old) * kind.width ≤ length material.now)) }
-    ensures news { Holds kind (length new.old) (λ j. kind.xor (places kind new.old j) (kind.xor (masked kind (means h.old) gate l w (λ i. slice_index nums.now i) key (kind.colour key) (places kind v.old) j) (scaled kind (kind.colour key) (row_at kind material.now (at + j))))) new.new }
-    ensures halved { Holds kind w (λ i. kind.xor (places kind v.old i) (places kind v.old (i + w))) v.new }
-    ensures ran { Ran (means h.old) (means h.new) (calls h.old) (calls h.new) (length new.old) }
+    requires long { (w ≤ length nums.now) × ((w + w ≤ length v.old) × ((at + length new.old) * L.kind.width ≤ length material.now)) }
+    ensures news { Holds L.kind (length new.old) (λ j. L.kind.xor (places L.kind new.old j) (L.kind.xor (masked L.kind (H.means h.old) gate l w (λ i. slice_index nums.now i) key (L.kind.colour key) (places L.kind v.old) j) (scaled L.kind (L.kind.colour key) (row_at L.kind material.now (at + j))))) new.new }
+    ensures halved { Holds L.kind w (λ i. L.kind.xor (places L.kind v.old i) (places L.kind v.old (i + w))) v.new }
+    ensures ran { Ran (H.means h.old) (H.means h.new) (H.calls h.old) (H.calls h.new) (length new.old) }
 {
     evaluate_level(h, gate, l, w, key, nums, v, new, material, at);
     halve(v, w);
@@ -186,9 +186,9 @@ pub fn evaluate_levels<L: Label, H: LabelHash<L>>(
     new: &mut [L],
 )
     requires small { (m ≤ 16) × ((length new.old ≡ m) × (length labels.now ≤ 8)) }
-    requires long { (w ≡ 2 ^ length labels.now) × ((w ≤ length v.old) × ((first + length labels.now * m) * kind.width ≤ length material.now)) }
-    ensures news { Holds kind m (λ j. kind.xor (places kind new.old j) (sum kind (length labels.now) (λ d. taken kind (means h.old) gate m (length labels.now) (λ d j. row_at kind material.now (first + (d * m + j))) (places kind labels.now) (places kind v.old) d j))) new.new }
-    ensures ran { Ran (means h.old) (means h.new) (calls h.old) (calls h.new) (w - 1 + length labels.now * m) }
+    requires long { (w ≡ 2 ^ length labels.now) × ((w ≤ length v.old) × ((first + length labels.now * m) * L.kind.width ≤ length material.now)) }
+    ensures news { Holds L.kind m (λ j. L.kind.xor (places L.kind new.old j) (sum L.kind (length labels.now) (λ d. taken L.kind (H.means h.old) gate m (length labels.now) (λ d j. row_at L.kind material.now (first + (d * m + j))) (places L.kind labels.now) (places L.kind v.old) d j))) new.new }
+    ensures ran { Ran (H.means h.old) (H.means h.new) (H.calls h.old) (H.calls h.new) (w - 1 + length labels.now * m) }
 {
     let mut nums = [0u16; 128];
     let mut half = w;

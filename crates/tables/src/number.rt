@@ -32,7 +32,7 @@ pub fn level_after(n: usize, d: usize) -> usize
 
 // The wire's label of colour 0, from its zero label.
 pub fn base<L: Label>(offset: L, zero: L) -> L
-    ensures { result ≡ based kind offset zero }
+    ensures { result ≡ based L.kind offset zero }
 {
     zero.xor(times(zero.colour(), offset))
 }
@@ -40,7 +40,7 @@ pub fn base<L: Label>(offset: L, zero: L) -> L
 // The number whose bit k is the colour of label k.
 pub fn colours<L: Label>(labels: &[L]) -> usize
     requires { length labels.now ≤ 8 }
-    ensures { result ≡ of-colours kind (length labels.now) (places kind labels.now) }
+    ensures { result ≡ of-colours L.kind (length labels.now) (places L.kind labels.now) }
 {
     let mut number = 0;
     let mut w = 1;

@@ -21,9 +21,9 @@ fn hash_part<L: Label, H: LabelHash<L>>(
     b: usize,
 ) -> L
     requires { (w + w ≤ length v.old) × ((w ≤ 128) × ((a ≤ b) × (b ≤ w))) }
-    ensures answer { result ≡ between kind a b (hashed kind (means h.old) gate w (places kind v.old)) }
-    ensures grew { Grew kind w a b (places kind v.old) (hashed kind (means h.old) gate w (places kind v.old)) v.new }
-    ensures ran { Ran (means h.old) (means h.new) (calls h.old) (calls h.new) (b - a) }
+    ensures answer { result ≡ between L.kind a b (hashed L.kind (H.means h.old) gate w (places L.kind v.old)) }
+    ensures grew { Grew L.kind w a b (places L.kind v.old) (hashed L.kind (H.means h.old) gate w (places L.kind v.old)) v.new }
+    ensures ran { Ran (H.means h.old) (H.means h.new) (H.calls h.old) (H.calls h.new) (b - a) }
 {
     let mut all = L::zero();
     for i in a..b {
@@ -39,9 +39,9 @@ fn hash_part<L: Label, H: LabelHash<L>>(
 // The garbler's level, from w places to 2 w. Answers the ⊕ of all c(i).
 fn grow<L: Label, H: LabelHash<L>>(h: &mut H, gate: u32, v: &mut [L], w: usize) -> L
     requires { (w + w ≤ length v.old) × (w ≤ 128) }
-    ensures answer { result ≡ sum kind w (hashed kind (means h.old) gate w (places kind v.old)) }
-    ensures front { Holds kind (w + w) (grown kind w (places kind v.old) (hashed kind (means h.old) gate w (places kind v.old))) v.new }
-    ensures ran { Ran (means h.old) (means h.new) (calls h.old) (calls h.new) w }
+    ensures answer { result ≡ sum L.kind w (hashed L.kind (H.means h.old) gate w (places L.kind v.old)) }
+    ensures front { Holds L.kind (w + w) (grown L.kind w (places L.kind v.old) (hashed L.kind (H.means h.old) gate w (places L.kind v.old))) v.new }
+    ensures ran { Ran (H.means h.old) (H.means h.new) (H.calls h.old) (H.calls h.new) w }
 {
     hash_part(h, gate, v, w, 0, w)
 }
@@ -65,8 +65,8 @@ fn grow_around<L: Label, H: LabelHash<L>>(
     whole: L,
 )
     requires { (w + w ≤ length v.old) × ((w ≤ 128) × (x < w)) }
-    ensures front { Holds kind (w + w) (grown kind w (places kind v.old) (filled kind w x whole (hashed kind (means h.old) gate w (places kind v.old)))) v.new }
-    ensures ran { Ran (means h.old) (means h.new) (calls h.old) (calls h.new) (w - 1) }
+    ensures front { Holds L.kind (w + w) (grown L.kind w (places L.kind v.old) (filled L.kind w x whole (hashed L.kind (H.means h.old) gate w (places L.kind v.old)))) v.new }
+    ensures ran { Ran (H.means h.old) (H.means h.new) (H.calls h.old) (H.calls h.new) (w - 1) }
 {
     let first = hash_part(h, gate, v, w, 0, x);
     let second = hash_part(h, gate, v, w, x + 1, w);
@@ -84,10 +84,10 @@ pub fn garble_one_hot<L: Label, H: LabelHash<L>>(
     v: &mut [L],
     material: &mut [u8],
 )
-    requires { (1 ≤ length zeros.now) × ((length zeros.now ≤ 8) × ((2 ^ length zeros.now ≤ length v.old) × ((length zeros.now - 1) * kind.width ≤ length material.old))) }
-    ensures front { Holds kind (2 ^ length zeros.now) (hot kind (means h.old) gate offset (λ k. based kind offset (places kind zeros.now k)) (length zeros.now)) v.new }
-    ensures rows { (k : ℕ) → k < length zeros.now - 1 → row_bytes kind k material.new ≡ kind.bytes (hot_row kind (means h.old) gate offset (λ k. based kind offset (places kind zeros.now k)) (suc k)) }
-    ensures ran { Ran (means h.old) (means h.new) (calls h.old) (calls h.new) (2 ^ length zeros.now - 2) }
+    requires { (1 ≤ length zeros.now) × ((length zeros.now ≤ 8) × ((2 ^ length zeros.now ≤ length v.old) × ((length zeros.now - 1) * L.kind.width ≤ length material.old))) }
+    ensures front { Holds L.kind (2 ^ length zeros.now) (hot L.kind (H.means h.old) gate offset (λ k. based L.kind offset (places L.kind zeros.now k)) (length zeros.now)) v.new }
+    ensures rows { (k : ℕ) → k < length zeros.now - 1 → row_bytes L.kind k material.new ≡ L.kind.bytes (hot_row L.kind (H.means h.old) gate offset (λ k. based L.kind offset (places L.kind zeros.now k)) (suc k)) }
+    ensures ran { Ran (H.means h.old) (H.means h.new) (H.calls h.old) (H.calls h.new) (2 ^ length zeros.now - 2) }
 {
     let first = base(offset, zeros[0]);
     v[0] = first.xor(offset);
@@ -108,9 +108,9 @@ pub fn evaluate_one_hot<L: Label, H: LabelHash<L>>(
     material: &[u8],
     v: &mut [L],
 )
-    requires { (1 ≤ length labels.now) × ((length labels.now ≤ 8) × ((2 ^ length labels.now ≤ length v.old) × ((length labels.now - 1) * kind.width ≤ length material.now))) }
-    ensures front { Holds kind (2 ^ length labels.now) (seen kind (means h.old) gate (one_hot_rows kind material.now) (places kind labels.now) (length labels.now)) v.new }
-    ensures ran { Ran (means h.old) (means h.new) (calls h.old) (calls h.new) (2 ^ length labels.now - 1 - length labels.now) }
+    requires { (1 ≤ length labels.now) × ((length labels.now ≤ 8) × ((2 ^ length labels.now ≤ length v.old) × ((length labels.now - 1) * L.kind.width ≤ length material.now))) }
+    ensures front { Holds L.kind (2 ^ length labels.now) (seen L.kind (H.means h.old) gate (one_hot_rows L.kind material.now) (places L.kind labels.now) (length labels.now)) v.new }
+    ensures ran { Ran (H.means h.old) (H.means h.new) (H.calls h.old) (H.calls h.new) (2 ^ length labels.now - 1 - length labels.now) }
 {
     let first = labels[0];
     v[0] = first;

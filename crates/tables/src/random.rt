@@ -24,9 +24,9 @@ pub fn pick<L: Label, H: LabelHash<L>>(
     from: usize,
 )
     requires { (m ≤ 16) × ((from + w ≤ length nums.old) × (w ≤ 128)) }
-    ensures there { (i : ℕ) → i < w → slice_index nums.new (from + i) ≡ picked kind (means h.old) gate m w key i }
+    ensures there { (i : ℕ) → i < w → slice_index nums.new (from + i) ≡ picked L.kind (H.means h.old) gate m w key i }
     ensures before { (i : ℕ) → i < from → slice_index nums.new i ≡ slice_index nums.old i }
-    ensures ran { Ran (means h.old) (means h.new) (calls h.old) (calls h.new) w }
+    ensures ran { Ran (H.means h.old) (H.means h.new) (H.calls h.old) (H.calls h.new) w }
 {
     for i in 0..w {
         nums[from + i] = h.hash(key, tweak(gate, 256 + w + i)).low_bits(m);
@@ -43,8 +43,8 @@ pub fn pick_all<L: Label, H: LabelHash<L>>(
     nums: &mut [u16],
 )
     requires { (m ≤ 16) × ((length zeros.now ≤ 8) × (2 ^ (length zeros.now + 1) ≤ length nums.old)) }
-    ensures there { Numbered kind (means h.old) gate m (length zeros.now) offset (λ k. based kind offset (places kind zeros.now k)) nums.new }
-    ensures ran { Ran (means h.old) (means h.new) (calls h.old) (calls h.new) (2 ^ (length zeros.now + 1) - 2) }
+    ensures there { Numbered L.kind (H.means h.old) gate m (length zeros.now) offset (λ k. based L.kind offset (places L.kind zeros.now k)) nums.new }
+    ensures ran { Ran (H.means h.old) (H.means h.new) (H.calls h.old) (H.calls h.new) (2 ^ (length zeros.now + 1) - 2) }
 {
     let mut w = 1;
     for p in 0..zeros.len() {

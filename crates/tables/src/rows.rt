@@ -7,17 +7,17 @@ use labels::kind::Label;
 
 // Writes the material's row k; all other rows stay.
 pub fn put_row<L: Label>(material: &mut [u8], k: usize, label: L)
-    requires { k * kind.width + kind.width ≤ length material.old }
-    ensures here { row_bytes kind k material.new ≡ kind.bytes label }
-    ensures others { (i : ℕ) → (i ≢ k) → row_bytes kind i material.new ≡ row_bytes kind i material.old }
+    requires { k * L.kind.width + L.kind.width ≤ length material.old }
+    ensures here { row_bytes L.kind k material.new ≡ L.kind.bytes label }
+    ensures others { (i : ℕ) → (i ≢ k) → row_bytes L.kind i material.new ≡ row_bytes L.kind i material.old }
 {
     rows::put(material, k * L::width(), label);
 }
 
 // Reads the material's row k.
 pub fn get_row<L: Label>(material: &[u8], k: usize) -> L
-    requires { k * kind.width + kind.width ≤ length material.now }
-    ensures { result ≡ row_at kind material.now k }
+    requires { k * L.kind.width + L.kind.width ≤ length material.now }
+    ensures { result ≡ row_at L.kind material.now k }
 {
     rows::get(material, k * L::width())
 }

@@ -12,7 +12,7 @@ use labels::kind::Label;
 // The ⊕ of v[at + i] over the i below w whose number, nums[from + i], has bit j.
 pub fn gather<L: Label>(j: usize, nums: &[u16], from: usize, v: &[L], at: usize, w: usize) -> L
     requires { (j < 16) × ((from + w ≤ length nums.now) × (at + w ≤ length v.now)) }
-    ensures { result ≡ chosen kind j w (λ i. slice_index nums.now (from + i)) (λ i. places kind v.now (at + i)) }
+    ensures { result ≡ chosen L.kind j w (λ i. slice_index nums.now (from + i)) (λ i. places L.kind v.now (at + i)) }
 {
     let mut all = L::zero();
     for i in 0..w {
@@ -24,7 +24,7 @@ pub fn gather<L: Label>(j: usize, nums: &[u16], from: usize, v: &[L], at: usize,
 // The garbler's new wires but for the parts of step 2.
 pub fn start_wires<L: Label>(s: u16, offset: L, fs: &[u16], v: &[L], w: usize, new: &mut [L])
     requires { (length new.old ≤ 16) × ((w ≤ length fs.now) × (w ≤ length v.now)) }
-    ensures { Holds kind (length new.old) (λ j. kind.xor (scaled kind (bit j s) offset) (chosen kind j w (λ i. slice_index fs.now i) (places kind v.now))) new.new }
+    ensures { Holds L.kind (length new.old) (λ j. L.kind.xor (scaled L.kind (bit j s) offset) (chosen L.kind j w (λ i. slice_index fs.now i) (places L.kind v.now))) new.new }
 {
     for j in 0..new.len() {
         new[j] = times(has_bit(s, j), offset).xor(gather(j, fs, 0, v, 0, w));
@@ -34,7 +34,7 @@ pub fn start_wires<L: Label>(s: u16, offset: L, fs: &[u16], v: &[L], w: usize, n
 // The evaluator's new wires but for the parts of step 2.
 pub fn choose<L: Label>(fs: &[u16], v: &[L], w: usize, new: &mut [L])
     requires { (length new.old ≤ 16) × ((w ≤ length fs.now) × (w ≤ length v.now)) }
-    ensures { Holds kind (length new.old) (λ j. chosen kind j w (λ i. slice_index fs.now i) (places kind v.now)) new.new }
+    ensures { Holds L.kind (length new.old) (λ j. chosen L.kind j w (λ i. slice_index fs.now i) (places L.kind v.now)) new.new }
 {
     for j in 0..new.len() {
         new[j] = gather(j, fs, 0, v, 0, w);

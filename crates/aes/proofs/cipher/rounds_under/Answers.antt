@@ -6,8 +6,8 @@ use Rattle.aes.proofs.cipher.rounds_under.Goals as goal
 
 pub loop-r-preserved : goal.loop-r-preserved
 loop-r-preserved c =
-    one_more (bytes_of c.args.keys.now.key) (bytes_of c.add-round-key-s.result) c.loop-r.r (omega arith)
-    c.loop-r.invariant c.at-in-loop-r.ensures c.full-round-s.ensures
+    one_more (bytes_of c.args.keys.now.key) (bytes_of c.add_round_key-s.result) c.loop-r.r (omega arith)
+    c.loop-r.invariant c.at-in-loop-r.ensures c.full_round-s.ensures
 
 pub returns : goal.returns
 unfolding cipher

@@ -7,7 +7,7 @@ pub returns-then-i-eq0 : goal.returns-then-i-eq0
 unfolding term
 returns-then-i-eq0 c =
     let e : eqb (c.args.i % 4) 0 ≡ true = eq-eqb (c.args.i % 4) 0 c.if-i-eq0.true in
-    rw e (cc (bytes4_xor c.sub-word.result c.round-constant.result))
+    rw e (cc (bytes4_xor c.sub_word.result c.round_constant.result))
 
 pub returns-else-i-eq0 : goal.returns-else-i-eq0
 unfolding term

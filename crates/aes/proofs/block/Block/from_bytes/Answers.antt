@@ -7,6 +7,6 @@ pub returns : goal.returns
 returns c =
     let bs : List ℕ = c.args.bytes in
     let n : length bs ≡ 16 = search rules in
-    by_columns c.column-of.result c.column-of-2.result c.column-of-3.result c.column-of-4.result
-    c.column-of.ensures c.column-of-2.ensures c.column-of-3.ensures c.column-of-4.ensures
+    by_columns c.column_of.result c.column_of-2.result c.column_of-3.result c.column_of-4.result
+    c.column_of.ensures c.column_of-2.ensures c.column_of-3.ensures c.column_of-4.ensures
     ∙ sym (listed bs ∙ ap (λ (k : ℕ). table (λ (i : ℕ). get_or bs i 0) 0 k) n)

@@ -14,11 +14,11 @@ loop-i-preserved c =
     let from : 4 ≤ i = omega arith in
     let n = c.loop-i.invariant.0 in
     let lt : i < length ws = omega arith in
-    let here : bytes4 (bit_xor (get_or ws (i - 4) 0) c.key-term.result) ≡ get_or (key_expansion (bytes_of c.args.key)) i [] =
+    let here : bytes4 (bit_xor (get_or ws (i - 4) 0) c.key_term.result) ≡ get_or (key_expansion (bytes_of c.args.key)) i [] =
     let back = c.loop-i.invariant.1 (i - 4) (omega arith) in
     let last = c.loop-i.invariant.1 (i - 1) (omega arith) in
     let r = word_rule (bytes_of c.args.key) i from c.loop-i-test.true in
-    let s = bytes4_xor (get_or ws (i - 4) 0) c.key-term.result in
+    let s = bytes4_xor (get_or ws (i - 4) 0) c.key_term.result in
     cc in (
       simp length-set n,
       below_more _ _
@@ -26,8 +26,8 @@ loop-i-preserved c =
           (rw get_or-set_same here),
     )
 
-pub invariant-of-result : goal.invariant-of-result
-invariant-of-result c = (λ i h. c.loop-i.invariant.1 i (omega arith), tt)
+pub invariant_of-result : goal.invariant_of-result
+invariant_of-result c = record { expanded = λ i h. c.loop-i.invariant.1 i (omega arith) }
 
 pub loop-i-init : goal.loop-i-init
 loop-i-init c = let k = c.args.key in (refl, start k.a k.b k.c k.d (replicate 40 0))

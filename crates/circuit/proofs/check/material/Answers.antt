@@ -6,6 +6,6 @@ use Rattle.circuit.proofs.check.material.Goals as goal
 
 pub loop-g-preserved : goal.loop-g-preserved
 loop-g-preserved g c =
-    let here : c.form-bits-more.result ≡ gate_bits (8 * g.L.Label.kind.width) (form_of (parts_in c.args.a) c.loop-g.g) = c.form-bits-more.ensures.0 ∙ cc in
+    let here : c.form_bits-more.result ≡ gate_bits (8 * g.L.Label.kind.width) (form_of (parts_in c.args.a) c.loop-g.g) = c.form_bits-more.ensures.0 ∙ cc in
     let one = add-one c.loop-g.g in
     (rw one (omega arith), rw one (omega arith), omega arith, omega arith)

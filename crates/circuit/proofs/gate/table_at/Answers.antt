@@ -20,30 +20,30 @@ from c g f p k i first words ef ep ek ei w e =
     let n : k ≡ form_of c g / 256 = ek ∙ ap (λ (j : ℕ). j / 256) ef in
     e ∙ ap (λ (xs : List ℕ). word_at xs i) w ∙ ap (λ (j : ℕ). word_at (part p (k + 1) c.operands) j) a ∙ m ∙ cc
 
-pub returns-then-not-table-form : goal.returns-then-not-table-form
-returns-then-not-table-form c =
-    table_unknown (parts_in c.args.a) c.args.g c.args.form c.args.place c.requires.formed c.requires.placed c.requires.whole c.requires.high (sym c.if-not-table-form.ensures)
+pub returns-then-not-table_form : goal.returns-then-not-table_form
+returns-then-not-table_form c =
+    table_unknown (parts_in c.args.a) c.args.g c.args.form c.args.place c.requires.formed c.requires.placed c.requires.whole c.requires.high (sym c.if-not-table_form.ensures)
 
-pub returns-in-default : goal.returns-in-default
-returns-in-default c =
-    operands_past (parts_in c.args.a) c.args.g c.args.form c.args.place c.requires.formed c.requires.placed c.requires.whole c.requires.high (sym c.if-not-table-form.ensures)
-    (omega (arith, c.in-default.ensures))
+pub returns-in_default : goal.returns-in_default
+returns-in_default c =
+    operands_past (parts_in c.args.a) c.args.g c.args.form c.args.place c.requires.formed c.requires.placed c.requires.whole c.requires.high (sym c.if-not-table_form.ensures)
+    (omega (arith, c.in_default.ensures))
 
-pub word-at-first-requires : goal.word-at-first-requires
-word-at-first-requires c =
+pub word_at-first-requires : goal.word_at-first-requires
+word_at-first-requires c =
     let s = c.in-Some.ensures in
     let l : length c.in-Some.words.now ≡ 2 * (c.args.form / 256 + 1) = long c.in-Some.words.now _ _ _ _ c.from.ensures s.0 s.1 in
     omega arith
 
-pub returns-in-default-stretch : goal.returns-in-default-stretch
-returns-in-default-stretch c =
+pub returns-in_default-stretch : goal.returns-in_default-stretch
+returns-in_default-stretch c =
     let s = c.in-Some.ensures in
-    let r = from (parts_in c.args.a) c.args.g c.args.form c.args.place c.from.result c.from-2.result c.word-at-first.result c.in-Some.words.now c.requires.formed c.requires.placed c.from.ensures c.from-2.ensures s.1 c.word-at-first.ensures in
-    rows_past (parts_in c.args.a) c.args.g c.args.form c.args.place c.requires.formed c.requires.placed c.requires.whole c.requires.high (sym c.if-not-table-form.ensures)
-    c.word-at-first.result r (omega (arith, c.in-default-stretch.ensures))
+    let r = from (parts_in c.args.a) c.args.g c.args.form c.args.place c.from.result c.from-2.result c.word_at-first.result c.in-Some.words.now c.requires.formed c.requires.placed c.from.ensures c.from-2.ensures s.1 c.word_at-first.ensures in
+    rows_past (parts_in c.args.a) c.args.g c.args.form c.args.place c.requires.formed c.requires.placed c.requires.whole c.requires.high (sym c.if-not-table_form.ensures)
+    c.word_at-first.result r (omega (arith, c.in_default-stretch.ensures))
 
-pub slice-bounds-result-end : goal.slice-bounds-result-end
-slice-bounds-result-end c =
+pub slice_bounds-result-end : goal.slice_bounds-result-end
+slice_bounds-result-end c =
     let s = c.in-Some.ensures in
     let l : length c.in-Some.words.now ≡ 2 * (c.args.form / 256 + 1) = long c.in-Some.words.now _ _ _ _ c.from.ensures s.0 s.1 in
     search rules
@@ -52,15 +52,15 @@ pub returns : goal.returns
 returns c =
     let s = c.in-Some.ensures in
     let t = c.in-Some-stretch.ensures in
-    let is = sym c.if-not-table-form.ensures in
-    let r = from (parts_in c.args.a) c.args.g c.args.form c.args.place c.from.result c.from-2.result c.word-at-first.result c.in-Some.words.now c.requires.formed c.requires.placed c.from.ensures c.from-2.ensures s.1 c.word-at-first.ensures in
+    let is = sym c.if-not-table_form.ensures in
+    let r = from (parts_in c.args.a) c.args.g c.args.form c.args.place c.from.result c.from-2.result c.word_at-first.result c.in-Some.words.now c.requires.formed c.requires.placed c.from.ensures c.from-2.ensures s.1 c.word_at-first.ensures in
     let f = part_front c.args.place (c.from.result + 1) c.from.result c.args.a.operands.now (omega arith) in
     let z : 2 * c.from-3.result - 0 ≡ 2 * c.from.result = omega arith in
     let o : take (2 * c.from-3.result - 0) c.in-Some.words.now ≡ part (place_of (parts_in c.args.a) c.args.g) (c.args.form / 256) c.args.a.operands.now = cc in
     let l : length c.in-Some.words.now ≡ 2 * (c.args.form / 256 + 1) = long c.in-Some.words.now _ _ _ _ c.from.ensures s.0 s.1 in
     let m : length (take (2 * c.from-3.result - 0) c.in-Some.words.now) ≡ 2 * (c.args.form / 256) = search (rules, length-take-le) in
-    let k = length_part c.word-at-first.result c.two-to.result c.args.a.rows.now t.0 in (
-      table_fits (parts_in c.args.a) c.args.g c.args.form c.args.place c.requires.formed c.requires.placed c.requires.whole c.requires.high is c.word-at-first.result r (omega arith) (omega (arith, t.0)),
+    let k = length_part c.word_at-first.result c.two_to.result c.args.a.rows.now t.0 in (
+      table_fits (parts_in c.args.a) c.args.g c.args.form c.args.place c.requires.formed c.requires.placed c.requires.whole c.requires.high is c.word_at-first.result r (omega arith) (omega (arith, t.0)),
       (
         is_table_form (parts_in c.args.a) c.args.g c.args.form c.args.place c.requires.formed c.requires.placed c.requires.whole c.requires.high is,
         (cc),

@@ -15,9 +15,9 @@ put front back A B h p q =
     ∙ ap (λ (x : List ℕ). front ++ (back ++ x)) (drop_all (24 - n) (drop n zeros) rest)
     ∙ ap (λ (x : List ℕ). front ++ x) (append-nil back)
 
-pub slice-bounds-bytes-end-2 : goal.slice-bounds-bytes-end-2
-slice-bounds-bytes-end-2 c = let long = ap length c.copy-from-slice.ensures.after in simp (length-append, length-drop) (omega arith)
+pub slice_bounds-bytes-end-2 : goal.slice_bounds-bytes-end-2
+slice_bounds-bytes-end-2 c = let long = ap length c.copy_from_slice.ensures.after in simp (length-append, length-drop) (omega arith)
 
 pub returns : goal.returns
 returns c =
-    put c.args.front.now c.args.back.now c.copy-from-slice.new.self c.copy-from-slice-2.new.self c.requires c.copy-from-slice.ensures.after c.copy-from-slice-2.ensures.after
+    put c.args.front.now c.args.back.now c.copy_from_slice.new.self c.copy_from_slice-2.new.self c.requires c.copy_from_slice.ensures.after c.copy_from_slice-2.ensures.after

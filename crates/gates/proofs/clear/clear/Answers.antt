@@ -8,8 +8,8 @@ loop-i-preserved g c =
     let z = g.L.Label.kind.zero in
     let i = c.loop-i.i in
     λ k l. elim (cases_eq k i) [
-      | inl p ↦ ap₂ (λ v j. get_or v j z) c.clear-one.ensures p ∙ get_or-set_same c.loop-i.labels i z z (omega arith)
-      | inr p ↦ ap (λ v. get_or v k z) c.clear-one.ensures ∙ get_or-set_other c.loop-i.labels i k z z p ∙ c.loop-i.invariant k (omega arith)
+      | inl p ↦ ap₂ (λ v j. get_or v j z) c.clear_one.ensures p ∙ get_or-set_same c.loop-i.labels i z z (omega arith)
+      | inr p ↦ ap (λ v. get_or v k z) c.clear_one.ensures ∙ get_or-set_other c.loop-i.labels i k z z p ∙ c.loop-i.invariant k (omega arith)
     ]
 
 pub returns : goal.returns

@@ -5,4 +5,4 @@ use Rattle.gates.proofs.rows.put.Goals as goal
 pub returns : goal.returns
 returns g c =
     let n : c.args.place + c.width.result - c.args.place ≡ c.width.result = omega arith in
-    c.write-part.ensures ∙ put_laid c.args.place _ c.args.material.now _ _ refl (n ∙ c.width.ensures ∙ sym (g.L.Label.kind.bytes_long c.args.label))
+    c.write_part.ensures ∙ put_laid c.args.place _ c.args.material.now _ _ refl (n ∙ c.width.ensures ∙ sym (g.L.Label.kind.bytes_long c.args.label))

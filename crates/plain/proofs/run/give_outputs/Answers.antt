@@ -11,7 +11,7 @@ read-requires c =
 
 pub loop-o-preserved : goal.loop-o-preserved
 loop-o-preserved c =
-    let here = c.bit-byte.ensures ∙ ap digit (c.read.ensures false ∙ ap (λ (w : ℕ). get_or c.args.wires.now.values.now w false) c.word-at.ensures) in
+    let here = c.bit_byte.ensures ∙ ap digit (c.read.ensures false ∙ ap (λ (w : ℕ). get_or c.args.wires.now.values.now w false) c.word_at.ensures) in
     below_more _ _
     (λ k h. let ne : k ≢ c.loop-o.o = omega arith in rw get_or-set_other (c.loop-o.invariant k h))
     (let lt : c.loop-o.o < length c.loop-o.outputs = omega arith in rw get_or-set_same here)

@@ -5,7 +5,7 @@ use Rattle.plain.proofs.run.plain.Goals as goal
 
 pub run-requires : goal.run-requires
 run-requires c =
-    let e = c.in-ok-c.ensures in
+    let e = c.in_ok-c.ensures in
     let p = e.1 in
     let n = p.count in
     let l = e.2 in
@@ -19,5 +19,5 @@ run-requires c =
 
 pub returns : goal.returns
 returns c =
-    let e = c.in-ok-c.ensures in
-    evaluated c.args.circuit.now c.args.bits.now _ c.in-ok-c.c.wires _ _ _ (length c.args.outputs.now) (search rules) e.0 e.1 c.run.ensures.filled c.run.ensures.outs
+    let e = c.in_ok-c.ensures in
+    evaluated c.args.circuit.now c.args.bits.now _ c.in_ok-c.c.wires _ _ _ (length c.args.outputs.now) (search rules) e.0 e.1 c.run.ensures.filled c.run.ensures.outs

@@ -27,9 +27,9 @@ returns-in-Table c =
     let m : new_in c.args.gate ≡ c.in-Table.m = ap (λ (q : Gate). new_in q) is in
     let k : made + c.from.result - made ≡ new_in c.args.gate = search rules in
     let l : length (take (made + c.from.result - made) (drop made ws)) ≡ new_in c.args.gate = search (rules, length-drop, length-take-le) in
-    let b = row_bits c.args.gate _ _ _ _ is c.requires.shaped ws _ _ c.row-number.ensures.number c.word-at-row.ensures in
+    let b = row_bits c.args.gate _ _ _ _ is c.requires.shaped ws _ _ c.row_number.ensures.number c.word_at-row.ensures in
     record {
       made = search rules;
-      grown = put_grown made (new_in c.args.gate) _ _ ws c.write-bits.new.out k (search rules) c.requires.room false (λ j h. c.write-bits.ensures j (omega arith) ∙ b j);
+      grown = put_grown made (new_in c.args.gate) _ _ ws c.write_bits.new.out k (search rules) c.requires.room false (λ j h. c.write_bits.ensures j (omega arith) ∙ b j);
       same = search rules;
     }

@@ -10,6 +10,6 @@ outs_of outs f n m xs ys e q h o l = h o (omega arith) ∙ ap (λ (zs : List Boo
 
 pub returns : goal.returns
 returns c = record {
-  filled = filled_of (search rules) (search rules) c.make-wires.ensures.filled;
-  outs = outs_of c.give-outputs.new.outputs (word_at c.args.a.outputs.now) (length c.args.outputs.now) c.args.a.sizes.outputs c.make-wires.new.wires.values.now _ (search rules) (search rules) c.give-outputs.ensures;
+  filled = filled_of (search rules) (search rules) c.make_wires.ensures.filled;
+  outs = outs_of c.give_outputs.new.outputs (word_at c.args.a.outputs.now) (length c.args.outputs.now) c.args.a.sizes.outputs c.make_wires.new.wires.values.now _ (search rules) (search rules) c.give_outputs.ensures;
 }

@@ -5,10 +5,10 @@ use Rattle.listing.proofs.dividend.joint_dividend.Goals as goal
 
 pub returns-in-Ok : goal.returns-in-Ok
 returns-in-Ok c =
-    let p = c.in-ok-c.ensures in
+    let p = c.in_ok-c.ensures in
     record {
-      evaluated = subst (λ (bits : List ℕ). Evaluated c.args.circuit.now bits c.args.wires.now c.plain.new.wires c.plain.new.outputs) c.input-bits-bits.ensures c.in-Ok.ensures;
+      evaluated = subst (λ (bits : List ℕ). Evaluated c.args.circuit.now bits c.args.wires.now c.plain.new.wires c.plain.new.outputs) c.input_bits-bits.ensures c.in-Ok.ensures;
       count = c.from.ensures ∙ p.count ∙ ap wires_in p.parts;
       few = subst (λ (n : ℕ). n ≤ 1024) (sym c.from.ensures) p.few;
-      dividend_is = c.number-of-outputs.ensures;
+      dividend_is = c.number_of_outputs.ensures;
     }

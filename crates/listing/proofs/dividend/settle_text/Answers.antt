@@ -33,14 +33,14 @@ same_lines bytes first second w d old new outputs head lo lp s eh =
     ∙ ap₂ (λ (z : List ℕ) (n : ℕ). tickets_line first second ++ (wire_lines (wire_bit bytes first second) (wires_in (parts_of bytes)) ++ ((codes "out " ++ (z ++ codes "\n")) ++ dividend_line n))) b num in
     body ∙ ap (text_unless bytes first second) (sym (ap₂ (plain_refusal bytes (count_bits first second)) (sym lo) (sym lp) ∙ e.accepted))
 
-pub settled-lines-requires : goal.settled-lines-requires
-settled-lines-requires c =
+pub settled_lines-requires : goal.settled_lines-requires
+settled_lines-requires c =
     let s = c.in-Ok.ensures in
     let f = s.few in
     search rules
 
 pub returns-in-Ok : goal.returns-in-Ok
 returns-in-Ok c =
-    IfOk-weaker c.settled-lines.result _ _
-    (λ t e. e ∙ same_lines c.args.circuit.now c.args.first c.args.second c.in-Ok.count c.in-Ok.dividend _ c.joint-dividend.new.wires c.joint-dividend.new.outputs (string_bytes c.in-ok-head.head) refl (search rules) c.in-Ok.ensures c.in-ok-head.ensures)
-    c.settled-lines.ensures
+    IfOk-weaker c.settled_lines.result _ _
+    (λ t e. e ∙ same_lines c.args.circuit.now c.args.first c.args.second c.in-Ok.count c.in-Ok.dividend _ c.joint_dividend.new.wires c.joint_dividend.new.outputs (string_bytes c.in_ok-head.head) refl (search rules) c.in-Ok.ensures c.in_ok-head.ensures)
+    c.settled_lines.ensures

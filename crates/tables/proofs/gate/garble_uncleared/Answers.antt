@@ -21,21 +21,21 @@ returns g c =
     let row = row_word c.args.rows.now in
     let n = length c.args.zeros.now in
     let m = length c.args.new.now in
-    let s = c.low-bits-s.result in
+    let s = c.low_bits-s.result in
     let ef : G ≡ F = c.draw.ensures.kept in
-    let es : s ≡ drawn K F gate n m c.args.seed = c.low-bits-s.ensures ∙ ap (K.low m) c.draw.ensures.answer in
+    let es : s ≡ drawn K F gate n m c.args.seed = c.low_bits-s.ensures ∙ ap (K.low m) c.draw.ensures.answer in
     let two = two_fit n (omega arith) in
     let ew : (1 * 2 ^ n) % 2 ^ 64 ≡ 2 ^ n = one_shl n 64 (omega arith) in
-    let made_of = c.garble-labels.ensures in
+    let made_of = c.garble_labels.ensures in
     let eT = ap (λ w. labels_of n m * w) c.width.ensures in
     let ran = ran_then F G _ _ _ _ 1 _ (3 * 2 ^ n - 3 + 2 * (n * m)) (record { kept = ef; count = c.draw.ensures.count }) made_of.ran (omega arith) in
     record {
       material =
-          material_by K G gate n m s Δ A row _ _ _ c.garble-labels.new.material c.pack.new.bytes (λ i. get_or c.garble-labels.new.fs i 0)
+          material_by K G gate n m s Δ A row _ _ _ c.garble_labels.new.material c.pack.new.bytes (λ i. get_or c.garble_labels.new.fs i 0)
           eT (omega arith) made_of.hots made_of.masks c.pack.ensures ew made_of.turns
           ∙ (λ i. material K (ef i) gate n m (es i) Δ A row);
       news =
-          listed_all (made K G gate m n s Δ A row) c.garble-labels.new.new K.zero m (omega arith) made_of.news
+          listed_all (made K G gate m n s Δ A row) c.garble_labels.new.new K.zero m (omega arith) made_of.news
           ∙ (λ i. zero_labels K (ef i) gate n m (es i) Δ A row);
       kept = ran.kept;
       count = ran.count;

@@ -8,14 +8,14 @@ use Rattle.tables.proofs.Masks.{masked_ext, rows_within, rows_counted}
 use Rattle.tables.proofs.Running.{ran_none, ran_then, ran_for}
 use Rattle.tables.proofs.levels.evaluate_level.Goals as goal
 
-pub overflow-add-at : goal.overflow-add-at
-overflow-add-at g c =
+pub overflow_add-at : goal.overflow_add-at
+overflow_add-at g c =
     let K = g.L.Label.kind in
     let f = rows_counted (c.args.at + length c.args.new.now) K.width K.width_least in
     omega arith
 
-pub get-row-row-requires : goal.get-row-row-requires
-get-row-row-requires g c =
+pub get_row-row-requires : goal.get_row-row-requires
+get_row-row-requires g c =
     let r = rows_within (c.args.at + c.loop-j.j) (c.args.at + length c.args.new.now) g.L.Label.kind.width (omega arith) in omega arith
 
 pub loop-j-init : goal.loop-j-init
@@ -32,7 +32,7 @@ loop-j-preserved g c =
     let z : c.mask_part.result ≡ masked K F c.args.gate c.args.l c.args.w (λ i. get_or c.args.nums.now i 0) c.args.key b V j =
     c.mask_part.ensures.answer ∙ masked_ext K _ F _ _ _ _ _ _ _ b V V j inv.2.kept (λ i l. ap (λ k. get_or c.args.nums.now k 0) (zero-add i)) refl (λ i l. refl) in
     let n = read_place K c.loop-j.new j c.index-new-j.result (omega arith) c.index-new-j.is ∙ inv.1 j (omega arith) in (
-      holds_more K _ _ _ _ _ inv.0 (omega arith) (c.xor.ensures ∙ ap₂ K.xor n (c.unmasked.ensures ∙ ap₂ (λ p r. K.xor p (times K b r)) z c.get-row-row.ensures)) refl,
+      holds_more K _ _ _ _ _ inv.0 (omega arith) (c.xor.ensures ∙ ap₂ K.xor n (c.unmasked.ensures ∙ ap₂ (λ p r. K.xor p (times K b r)) z c.get_row-row.ensures)) refl,
       past_set K _ _ _ _ _ _ inv.1 (omega arith) (omega arith),
       ran_then _ _ _ _ _ _ _ _ _ inv.2 c.mask_part.ensures.ran (omega arith),
     )

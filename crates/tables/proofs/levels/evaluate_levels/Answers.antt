@@ -18,8 +18,8 @@ pick-requires g c =
     let low = level_below n d 7 (omega arith) (omega arith) in
     omega arith
 
-pub evaluate-then-halve-requires : goal.evaluate-then-halve-requires
-evaluate-then-halve-requires g c =
+pub evaluate_then_halve-requires : goal.evaluate_then_halve-requires
+evaluate_then_halve-requires g c =
     let n = length c.args.labels.now in
     let d = c.loop-d.d in
     let inv = c.loop-d.invariant in
@@ -30,13 +30,13 @@ evaluate-then-halve-requires g c =
     let z = inv.0 in
     let e = inv.1 in
     let a = inv.2 in
-    let el : c.level-after-l.result ≡ length c.args.labels.now - c.loop-d.d = let e = c.level-after-l.ensures in omega arith in
+    let el : c.level_after-l.result ≡ length c.args.labels.now - c.loop-d.d = let e = c.level_after-l.ensures in omega arith in
     let fit = rows_fit c.args.first d n c.args.m g.L.Label.kind.width (omega arith) in
     let same : (c.loop-d.at + length c.loop-d.new) * g.L.Label.kind.width ≡ (c.args.first + (d * c.args.m + c.args.m)) * g.L.Label.kind.width = ap (λ k. k * g.L.Label.kind.width) (omega arith) in
     record { small = omega arith; long = omega arith }
 
-pub overflow-add-at : goal.overflow-add-at
-overflow-add-at g c =
+pub overflow_add-at : goal.overflow_add-at
+overflow_add-at g c =
     let K = g.L.Label.kind in
     let n = length c.args.labels.now in
     let a = c.loop-d.invariant.2 in
@@ -70,8 +70,8 @@ loop-d-preserved g c =
     let row = next_row d m in
     let ew : w ≡ 2 ^ (n - suc d) = omega arith in
     let ed : 2 ^ (n - (d + 1)) ≡ 2 ^ (n - suc d) = let q : n - (d + 1) ≡ n - suc d = omega arith in ap (λ k. 2 ^ k) q in
-    let el : c.level-after-l.result ≡ length c.args.labels.now - c.loop-d.d = let e = c.level-after-l.ensures in omega arith in
-    let l = c.level-after-l.result in
+    let el : c.level_after-l.result ≡ length c.args.labels.now - c.loop-d.d = let e = c.level_after-l.ensures in omega arith in
+    let l = c.level_after-l.result in
     let k = read_place K c.args.labels.now (l - 1) c.index-labels-l.result (omega arith) c.index-labels-l.is in
     let key : c.index-labels-l.result ≡ E (n - suc d) = let q : l - 1 ≡ n - suc d = omega arith in k ∙ ap E q in
     let f = inv.5.kept in
@@ -80,11 +80,11 @@ loop-d-preserved g c =
       omega arith,
       omega arith,
       omega arith,
-      halved_more K n d w V _ _ (omega arith) ew inv.3 c.evaluate-then-halve.ensures.halved,
+      halved_more K n d w V _ _ (omega arith) ew inv.3 c.evaluate_then_halve.ensures.halved,
       (λ j l. sum_onto K d (λ e. taken K F c.args.gate m n masks E V e j) _ _ _ _ (inv.4 j l)
           (taken_level K F _ _ c.args.gate m n d w c.loop-d.at c.args.first E V c.index-labels-l.result c.pick.new.nums c.loop-d.v (row_at K c.args.material.now) j (omega arith) ew f f' c.pick.ensures.there key inv.3 a)
-          (c.evaluate-then-halve.ensures.news j (omega arith) ∙ ap (λ i. K.xor (places K c.loop-d.new j) (K.xor (masked K (g.H.LabelHash.means c.pick.new.h) c.args.gate i w (λ i. get_or c.pick.new.nums i 0) c.index-labels-l.result (K.colour c.index-labels-l.result) (places K c.loop-d.v) j) (times K (K.colour c.index-labels-l.result) (row_at K c.args.material.now (c.loop-d.at + j))))) el)),
-      ran_then _ _ _ _ _ _ _ _ _ inv.5 (ran_then _ _ _ _ _ _ _ _ _ c.pick.ensures.ran c.evaluate-then-halve.ensures.ran refl) (omega arith),
+          (c.evaluate_then_halve.ensures.news j (omega arith) ∙ ap (λ i. K.xor (places K c.loop-d.new j) (K.xor (masked K (g.H.LabelHash.means c.pick.new.h) c.args.gate i w (λ i. get_or c.pick.new.nums i 0) c.index-labels-l.result (K.colour c.index-labels-l.result) (places K c.loop-d.v) j) (times K (K.colour c.index-labels-l.result) (row_at K c.args.material.now (c.loop-d.at + j))))) el)),
+      ran_then _ _ _ _ _ _ _ _ _ inv.5 (ran_then _ _ _ _ _ _ _ _ _ c.pick.ensures.ran c.evaluate_then_halve.ensures.ran refl) (omega arith),
     )
 
 pub returns : goal.returns

@@ -13,14 +13,14 @@ loop-j-init g c =
     let K = g.L.Label.kind in
     (holds_none K _ _ _ refl, (λ i l. refl), (λ i l. absurd (omega arith)), (λ i l. refl), ran_none _ _ (g.met.H.LabelHash.fits _))
 
-pub overflow-add-at : goal.overflow-add-at
-overflow-add-at g c =
+pub overflow_add-at : goal.overflow_add-at
+overflow_add-at g c =
     let K = g.L.Label.kind in
     let f = rows_counted (c.args.at + length c.args.new.now) K.width K.width_least in
     omega arith
 
-pub put-row-requires : goal.put-row-requires
-put-row-requires g c =
+pub put_row-requires : goal.put_row-requires
+put_row-requires g c =
     let r = rows_within (c.args.at + c.loop-j.j) (c.args.at + length c.args.new.now) g.L.Label.kind.width (omega arith) in omega arith
 
 pub loop-j-preserved : goal.loop-j-preserved
@@ -39,10 +39,10 @@ loop-j-preserved g c =
       holds_more K _ _ _ _ _ inv.0 (omega arith) (c.xor-in-loop-j.ensures ∙ ap₂ K.xor n z) refl,
       past_set K _ _ _ _ _ _ inv.1 (omega arith) (omega arith),
       (λ k l. elim (cases_eq k j) [
-        | inl q ↦ ap (λ i. row_bytes K (c.args.at + i) c.put-row.new.material) q ∙ c.put-row.ensures.here ∙ ap K.bytes (c.xor.ensures ∙ ap₂ K.xor z o) ∙ ap (λ i. K.bytes (K.xor (zero i) (one i))) (sym q)
-        | inr q ↦ c.put-row.ensures.others (c.args.at + k) (λ r. q (omega arith)) ∙ inv.2 k (omega arith)
+        | inl q ↦ ap (λ i. row_bytes K (c.args.at + i) c.put_row.new.material) q ∙ c.put_row.ensures.here ∙ ap K.bytes (c.xor.ensures ∙ ap₂ K.xor z o) ∙ ap (λ i. K.bytes (K.xor (zero i) (one i))) (sym q)
+        | inr q ↦ c.put_row.ensures.others (c.args.at + k) (λ r. q (omega arith)) ∙ inv.2 k (omega arith)
       ]),
-      (λ i l. c.put-row.ensures.others i (omega arith) ∙ inv.3 i l),
+      (λ i l. c.put_row.ensures.others i (omega arith) ∙ inv.3 i l),
       ran_then _ _ _ _ _ _ _ _ _ inv.4 (ran_then _ _ _ _ _ _ _ _ 2 c.mask-zero.ensures.ran c.mask-one.ensures.ran refl) (omega arith),
     )
 

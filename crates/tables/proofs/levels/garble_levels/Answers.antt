@@ -8,8 +8,8 @@ use Rattle.tables.proofs.Masks.{twice_next, level_within, next_row, rows_within,
 use Rattle.tables.proofs.Running.{ran_none, ran_then, ran_for}
 use Rattle.tables.proofs.levels.garble_levels.Goals as goal
 
-pub garble-level-requires : goal.garble-level-requires
-garble-level-requires g c =
+pub garble_level-requires : goal.garble_level-requires
+garble_level-requires g c =
     let n = length c.args.zeros.now in
     let d = c.loop-d.d in
     let inv = c.loop-d.invariant in
@@ -18,13 +18,13 @@ garble-level-requires g c =
     let r = rows_within d n c.args.m (omega arith) in
     let e = inv.0 in
     let a = inv.1 in
-    let el : c.level-after-l.result ≡ length c.args.zeros.now - c.loop-d.d = let e = c.level-after-l.ensures in omega arith in
+    let el : c.level_after-l.result ≡ length c.args.zeros.now - c.loop-d.d = let e = c.level_after-l.ensures in omega arith in
     let fit = rows_fit c.args.first d n c.args.m g.L.Label.kind.width (omega arith) in
     let same : (c.loop-d.at + length c.loop-d.new) * g.L.Label.kind.width ≡ (c.args.first + (d * c.args.m + c.args.m)) * g.L.Label.kind.width = ap (λ k. k * g.L.Label.kind.width) (omega arith) in
     record { small = omega arith; long = omega arith }
 
-pub overflow-add-at : goal.overflow-add-at
-overflow-add-at g c =
+pub overflow_add-at : goal.overflow_add-at
+overflow_add-at g c =
     let K = g.L.Label.kind in
     let n = length c.args.zeros.now in
     let a = c.loop-d.invariant.1 in
@@ -69,8 +69,8 @@ loop-d-preserved g c =
     let row = next_row d m in
     let ew : w ≡ 2 ^ (n - suc d) = omega arith in
     let ed : 2 ^ (n - (d + 1)) ≡ 2 ^ (n - suc d) = let q : n - (d + 1) ≡ n - suc d = omega arith in ap (λ k. 2 ^ k) q in
-    let el : c.level-after-l.result ≡ length c.args.zeros.now - c.loop-d.d = let e = c.level-after-l.ensures in omega arith in
-    let base : c.base-key.result ≡ B (n - suc d) = let q : c.level-after-l.result - 1 ≡ n - suc d = omega arith in c.base-key.ensures ∙ ap (based K Δ) (read_place K c.args.zeros.now (c.level-after-l.result - 1) c.index-zeros-l.result (omega arith) c.index-zeros-l.is) ∙ ap B q in
+    let el : c.level_after-l.result ≡ length c.args.zeros.now - c.loop-d.d = let e = c.level_after-l.ensures in omega arith in
+    let base : c.base-key.result ≡ B (n - suc d) = let q : c.level_after-l.result - 1 ≡ n - suc d = omega arith in c.base-key.ensures ∙ ap (based K Δ) (read_place K c.args.zeros.now (c.level_after-l.result - 1) c.index-zeros-l.result (omega arith) c.index-zeros-l.is) ∙ ap B q in
     let G = g.H.LabelHash.means c.loop-d.h in
     let f = inv.6.kept in
     let z : (j : ℕ) → _ ≡ part K F gate m n Δ B V d false j = λ j. ap (λ i. level K G gate i w Δ c.base-key.result (λ i. get_or c.args.nums.now (c.loop-d.half + i) 0) (places K c.loop-d.v) false j) el ∙ given_level K F G gate m n d w c.loop-d.half Δ _ B V c.args.nums.now c.loop-d.v false j (omega arith) ew e f base c.requires.there inv.2 in
@@ -78,15 +78,15 @@ loop-d-preserved g c =
       omega arith,
       omega arith,
       halved_more K n d w V _ _ (omega arith) ew inv.2 c.halve.ensures,
-      (λ j l. sum_onto K d (λ e. part K F gate m n Δ B V e false j) _ _ _ _ (inv.3 j l) (z j) (c.garble-level.ensures.news j (omega arith))),
+      (λ j l. sum_onto K d (λ e. part K F gate m n Δ B V e false j) _ _ _ _ (inv.3 j l) (z j) (c.garble_level.ensures.news j (omega arith))),
       (λ k l j h. elim (cases_lt k d) [
-        | inl b ↦ (let r = rows_within k d m b in c.garble-level.ensures.before (c.args.first + (k * m + j)) (omega arith) ∙ inv.4 k b j h)
+        | inl b ↦ (let r = rows_within k d m b in c.garble_level.ensures.before (c.args.first + (k * m + j)) (omega arith) ∙ inv.4 k b j h)
         | inr b ↦ (let q : k ≡ d = omega arith in
             let p : c.args.first + (k * m + j) ≡ c.loop-d.at + j = ap (λ x. c.args.first + (x * m + j)) q ∙ omega arith in
-            ap (λ i. row_bytes K i c.garble-level.new.material) p ∙ c.garble-level.ensures.row j (omega arith) ∙ ap K.bytes (ap₂ K.xor (z j) (o j) ∙ ap (λ x. mask_row K F gate m n Δ B V x j) (sym q)))
+            ap (λ i. row_bytes K i c.garble_level.new.material) p ∙ c.garble_level.ensures.row j (omega arith) ∙ ap K.bytes (ap₂ K.xor (z j) (o j) ∙ ap (λ x. mask_row K F gate m n Δ B V x j) (sym q)))
       ]),
-      (λ i l. c.garble-level.ensures.before i (omega arith) ∙ inv.5 i l),
-      ran_then _ _ _ _ _ _ _ _ _ inv.6 c.garble-level.ensures.ran (omega arith),
+      (λ i l. c.garble_level.ensures.before i (omega arith) ∙ inv.5 i l),
+      ran_then _ _ _ _ _ _ _ _ _ inv.6 c.garble_level.ensures.ran (omega arith),
     )
 
 pub returns : goal.returns

@@ -5,8 +5,8 @@ use Rattle.tables.proofs.Hot.{colours_more}
 use Rattle.tables.proofs.Numbering.{two_pow, number_below}
 use Rattle.tables.proofs.number.colours.Goals as goal
 
-pub overflow-add-number : goal.overflow-add-number
-overflow-add-number g c =
+pub overflow_add-number : goal.overflow_add-number
+overflow_add-number g c =
     let K = g.L.Label.kind in
     let k = c.loop-k.k in
     let e = c.loop-k.invariant.0 in

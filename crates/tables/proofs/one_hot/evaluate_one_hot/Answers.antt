@@ -11,12 +11,12 @@ use Rattle.tables.proofs.one_hot.evaluate_one_hot.Goals as goal
 pub bounds-v-1 : goal.bounds-v-1
 bounds-v-1 g c = let p = two_fit (length c.args.labels.now) (omega arith) in simp length-set (omega arith)
 
-pub get-row-row-requires : goal.get-row-row-requires
-get-row-row-requires g c =
+pub get_row-row-requires : goal.get_row-row-requires
+get_row-row-requires g c =
     let r = rows_within (c.loop-j.j - 1) (length c.args.labels.now - 1) g.L.Label.kind.width (omega arith) in omega arith
 
-pub grow-around-requires : goal.grow-around-requires
-grow-around-requires g c =
+pub grow_around-requires : goal.grow_around-requires
+grow_around-requires g c =
     let K = g.L.Label.kind in
     let q = c.loop-j.invariant.0 in
     let eight = fits_eight (length c.args.labels.now) (omega arith) in
@@ -26,8 +26,8 @@ grow-around-requires g c =
     let e : length c.loop-j.v ≡ length c.args.v.now = c.loop-j.auto.v ∙ simp length-set in
     omega arith
 
-pub overflow-add-x : goal.overflow-add-x
-overflow-add-x g c =
+pub overflow_add-x : goal.overflow_add-x
+overflow_add-x g c =
     let K = g.L.Label.kind in
     let q = c.loop-j.invariant.0 in
     let eight = fits_eight (length c.args.labels.now) (omega arith) in
@@ -36,8 +36,8 @@ overflow-add-x g c =
     let b = number_below c.loop-j.j (λ k. K.colour (places K c.args.labels.now k)) in
     omega arith
 
-pub overflow-add-w : goal.overflow-add-w
-overflow-add-w g c =
+pub overflow_add-w : goal.overflow_add-w
+overflow_add-w g c =
     let q = c.loop-j.invariant.0 in
     let eight = fits_eight (length c.args.labels.now) (omega arith) in
     let p = next_fits c.loop-j.j (length c.args.labels.now) (omega arith) in
@@ -65,7 +65,7 @@ loop-j-preserved g c =
     let R = one_hot_rows K c.args.material.now in
     let j = c.loop-j.j in
     let inv = c.loop-j.invariant in
-    let r = c.grow-around.ensures in
+    let r = c.grow_around.ensures in
     let e = c.loop-j.invariant.0 in
     let p = next_fits j (length c.args.labels.now) (omega arith) in
     let q : 2 ^ (j + 1) ≡ 2 ^ j + 2 ^ j = ap (λ k. 2 ^ k) (add-one j) ∙ two_pow j in
@@ -74,7 +74,7 @@ loop-j-preserved g c =
     let eE = read_place K c.args.labels.now j c.index-labels-j.result (omega arith) c.index-labels-j.is in (
       omega arith,
       colours_more K E j _ _ _ _ _ _ inv.1 e c.colour-in-loop-j.ensures eE c.weight-x-in-loop-j.ensures.value refl,
-      seen_more K F c.args.gate _ R E j _ _ _ _ _ inv.3.kept (omega arith) e inv.1 (c.xor.ensures ∙ ap₂ K.xor c.get-row-row.ensures eE) inv.2 r.front,
+      seen_more K F c.args.gate _ R E j _ _ _ _ _ inv.3.kept (omega arith) e inv.1 (c.xor.ensures ∙ ap₂ K.xor c.get_row-row.ensures eE) inv.2 r.front,
       ran_then _ _ _ _ _ _ _ _ _ inv.3 r.ran (omega arith),
     )
 

@@ -21,12 +21,12 @@ grow-all-requires g c =
     let e : length c.loop-j.v ≡ length c.args.v.now = c.loop-j.auto.v ∙ simp length-set in
     omega arith
 
-pub put-row-requires : goal.put-row-requires
-put-row-requires g c =
+pub put_row-requires : goal.put_row-requires
+put_row-requires g c =
     let r = rows_within (c.loop-j.j - 1) (length c.args.zeros.now - 1) g.L.Label.kind.width (omega arith) in omega arith
 
-pub overflow-add-w : goal.overflow-add-w
-overflow-add-w g c =
+pub overflow_add-w : goal.overflow_add-w
+overflow_add-w g c =
     let q = c.loop-j.invariant.0 in
     let p = next_fits c.loop-j.j (length c.args.zeros.now) (omega arith) in
     let b = fits_eight (length c.args.zeros.now) (omega arith) in
@@ -65,8 +65,8 @@ loop-j-preserved g c =
       omega arith,
       hot_more K _ _ _ Δ B j _ _ _ inv.3.kept (omega arith) e inv.1 r.front,
       (λ k l. elim (cases_eq k (j - 1)) [
-        | inl s ↦ ap (λ i. row_bytes K i c.put-row.new.material) s ∙ c.put-row.ensures.here ∙ ap K.bytes row ∙ ap (λ i. K.bytes (hot_row K F c.args.gate Δ B (suc i))) (sym s)
-        | inr s ↦ c.put-row.ensures.others k s ∙ inv.2 k (omega arith)
+        | inl s ↦ ap (λ i. row_bytes K i c.put_row.new.material) s ∙ c.put_row.ensures.here ∙ ap K.bytes row ∙ ap (λ i. K.bytes (hot_row K F c.args.gate Δ B (suc i))) (sym s)
+        | inr s ↦ c.put_row.ensures.others k s ∙ inv.2 k (omega arith)
       ]),
       ran_then _ _ _ _ _ _ _ _ _ inv.3 r.ran (omega arith),
     )

@@ -20,8 +20,8 @@ bounds-bytes-at-in-loop-j c =
     let k = c.loop-j.auto.bytes in
     omega arith
 
-pub overflow-add-bytes : goal.overflow-add-bytes
-overflow-add-bytes c =
+pub overflow_add-bytes : goal.overflow_add-bytes
+overflow_add-bytes c =
     let at : ℕ = c.args.p + c.loop-j.j in
     let r = in_rows c.args.w c.args.m (λ i. i) c.args.i c.loop-j.j (omega arith) (omega arith) in
     let q = c.requires.there in
@@ -43,6 +43,6 @@ loop-j-preserved c =
     let k = c.loop-j.auto.bytes in
     let one : (1 * 2 ^ (at % 8)) % 2 ^ 64 ≡ 2 ^ (at % 8) = one_shl (at % 8) 64 (omega arith) in
     let here : stream w m f at ≡ bit j (f c.args.i) = ap (λ p. stream w m f (p + j)) c.requires.there.0 ∙ stream_at w m f c.args.i j (omega arith) (omega arith) in
-    let x : c.weight.result ≡ cond (stream w m f at) 1 0 * 2 ^ (at % 8) = c.weight.ensures.value ∙ ap₂ (λ v n. cond v 1 0 * n) (c.has-bit.ensures ∙ sym here) one in
+    let x : c.weight.result ≡ cond (stream w m f at) 1 0 * 2 ^ (at % 8) = c.weight.ensures.value ∙ ap₂ (λ v n. cond v 1 0 * n) (c.has_bit.ensures ∙ sym here) one in
     let e : at + 1 ≡ c.args.p + (j + 1) = omega arith in
     subst (λ n. Packing w m f n (set c.loop-j.bytes (at / 8) (get_or c.loop-j.bytes (at / 8) 0 + c.weight.result))) e (packing_more w m f at c.weight.result c.loop-j.bytes c.loop-j.invariant (omega arith) x)

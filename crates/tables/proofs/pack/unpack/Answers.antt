@@ -6,8 +6,8 @@ use Rattle.tables.proofs.Filling.{there_first}
 use Rattle.tables.proofs.Masks.{next_row, rows_within}
 use Rattle.tables.proofs.pack.unpack.Goals as goal
 
-pub unpack-row-requires : goal.unpack-row-requires
-unpack-row-requires c =
+pub unpack_row-requires : goal.unpack_row-requires
+unpack_row-requires c =
     let r = rows_within c.loop-i.i c.args.w c.args.m (omega arith) in
     let b = mul-le c.loop-i.i c.args.m 256 16 (omega arith) (omega arith) in
     let e = c.loop-i.invariant.0 in
@@ -20,5 +20,5 @@ loop-i-preserved c =
     let q = next_row i c.args.m in (
       omega arith,
       there_first 0 i (unpacked c.args.m c.args.bytes.now) c.loop-i.fs _ c.loop-i.invariant.1 (omega arith)
-          (c.unpack-row.ensures ∙ ap (λ p. number c.args.m (λ j. bit_at c.args.bytes.now (p + j))) e),
+          (c.unpack_row.ensures ∙ ap (λ p. number c.args.m (λ j. bit_at c.args.bytes.now (p + j))) e),
     )

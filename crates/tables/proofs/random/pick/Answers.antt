@@ -14,8 +14,8 @@ loop-i-preserved g c =
     let i = c.loop-i.i in
     let inv = c.loop-i.invariant in (
       there_more 0 c.args.from i (picked K F c.args.gate c.args.m c.args.w c.args.key) _ _ inv.0 (omega arith)
-          (c.low-bits.ensures ∙ ap (K.low c.args.m) (c.hash.ensures.answer ∙ ap₂ (λ f t. f c.args.key t) inv.2.kept c.tweak.ensures)),
-      (λ k l. get_or-set_other c.loop-i.nums (c.args.from + i) k c.low-bits.result 0 (omega arith) ∙ inv.1 k l),
+          (c.low_bits.ensures ∙ ap (K.low c.args.m) (c.hash.ensures.answer ∙ ap₂ (λ f t. f c.args.key t) inv.2.kept c.tweak.ensures)),
+      (λ k l. get_or-set_other c.loop-i.nums (c.args.from + i) k c.low_bits.result 0 (omega arith) ∙ inv.1 k l),
       ran_then _ _ _ _ _ _ _ 1 _ inv.2 (record { kept = c.hash.ensures.kept; count = c.hash.ensures.count }) refl,
     )
 

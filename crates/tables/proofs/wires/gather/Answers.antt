@@ -12,7 +12,7 @@ loop-i-preserved g c =
     let i = c.loop-i.i in
     let f : ℕ → g.row.L.Denot = λ k. times K (bit c.args.j (get_or c.args.nums.now (c.args.from + k) 0)) (places K c.args.v.now (c.args.at + k)) in
     sum_more K i f _ _ _ c.loop-i.invariant
-    (c.times.ensures ∙ ap (λ v. times K v c.index-v-at.result) c.has-bit.ensures ∙ ap (times K (bit c.args.j (get_or c.args.nums.now (c.args.from + i) 0))) (read_place K c.args.v.now (c.args.at + i) c.index-v-at.result (omega arith) c.index-v-at.is))
+    (c.times.ensures ∙ ap (λ v. times K v c.index-v-at.result) c.has_bit.ensures ∙ ap (times K (bit c.args.j (get_or c.args.nums.now (c.args.from + i) 0))) (read_place K c.args.v.now (c.args.at + i) c.index-v-at.result (omega arith) c.index-v-at.is))
     c.xor-all.ensures
 
 pub returns : goal.returns

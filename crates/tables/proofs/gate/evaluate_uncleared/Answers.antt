@@ -7,10 +7,17 @@ use Rattle.tables.specs.Table.{places, chosen, found}
 use Rattle.tables.proofs.Gating.{gate_meets}
 use Rattle.tables.proofs.Hot.{more_than, two_fit}
 use Rattle.tables.proofs.Masks.{found_of, chosen_ext}
-use Rattle.tables.proofs.Numbering.{two_pow}
+use Rattle.tables.proofs.Numbering.{two_pow, fits_eight}
 use Rattle.tables.proofs.Packing.{listed_all}
 use Rattle.tables.proofs.Running.{ran_then}
 use Rattle.tables.proofs.gate.evaluate_uncleared.Goals as goal
+
+pub evaluate_levels-requires-clause-long : goal.evaluate_levels-requires-clause-long
+evaluate_levels-requires-clause-long g c =
+    let n = length c.args.labels.now in
+    let ew : (1 * 2 ^ n) % 2 ^ 64 ≡ 2 ^ n = one_shl n 64 (omega arith) in
+    let e = fits_eight n (omega arith) in
+    (ew, (omega arith, omega arith))
 
 pub returns : goal.returns
 returns g c =

@@ -29,12 +29,12 @@ loop-j-preserved g c =
     let b = c.colour-b.result in
     let j = c.loop-j.j in
     let inv = c.loop-j.invariant in
-    let z : c.mask_part.result ≡ masked K F c.args.gate c.args.l c.args.w (λ i. get_or c.args.nums.now i 0) c.args.key b V j =
-    c.mask_part.ensures.answer ∙ masked_ext K _ F _ _ _ _ _ _ _ b V V j inv.2.kept (λ i l. ap (λ k. get_or c.args.nums.now k 0) (zero-add i)) refl (λ i l. refl) in
+    let z : c.mask-part.result ≡ masked K F c.args.gate c.args.l c.args.w (λ i. get_or c.args.nums.now i 0) c.args.key b V j =
+    c.mask-part.ensures.answer ∙ masked_ext K _ F _ _ _ _ _ _ _ b V V j inv.2.kept (λ i l. ap (λ k. get_or c.args.nums.now k 0) (zero-add i)) refl (λ i l. refl) in
     let n = read_place K c.loop-j.new j c.index-new-j.result (omega arith) c.index-new-j.is ∙ inv.1 j (omega arith) in (
       holds_more K _ _ _ _ _ inv.0 (omega arith) (c.xor.ensures ∙ ap₂ K.xor n (c.unmasked.ensures ∙ ap₂ (λ p r. K.xor p (times K b r)) z c.get_row-row.ensures)) refl,
       past_set K _ _ _ _ _ _ inv.1 (omega arith) (omega arith),
-      ran_then _ _ _ _ _ _ _ _ _ inv.2 c.mask_part.ensures.ran (omega arith),
+      ran_then _ _ _ _ _ _ _ _ _ inv.2 c.mask-part.ensures.ran (omega arith),
     )
 
 pub returns : goal.returns

@@ -2,7 +2,7 @@ use Rattle.std.proofs.Common.{◌≡◌, ℕ, ◌+◌, ◌-◌, ◌*◌, ◌^◌
 use Rattle.tables.specs.Level.{Holds}
 use Rattle.tables.specs.Material.{row_bytes}
 use Rattle.tables.specs.Ran.{Ran}
-use Rattle.tables.specs.Table.{places, based, sum, halved, goal as part, mask_row}
+use Rattle.tables.specs.Table.{places, based, sum, halved, given as part, mask_row}
 use Rattle.tables.proofs.levels.garble_levels.Given as goal
 
 abbrev pub invariant-loop-d : goal.invariant-loop-d

@@ -5,10 +5,10 @@ use Rattle.circuit.specs.Parts.{Parts}
 use Rattle.memory.proofs.Copying.{passed_long, copy_passes, copy_is}
 use Rattle.memory.proofs.copy.open_copy.Goals as goal
 
-pub write-copy-requires : goal.write-copy-requires
-write-copy-requires c =
+pub write_copy-requires : goal.write_copy-requires
+write_copy-requires c =
     let bytes = c.args.circuit.now in
-    let p = c.in-ok-s.ensures in
+    let p = c.in_ok-s.ensures in
     let long = passed_long bytes p.passes in
     let gates : c.from.result ≡ (sizes_of bytes).gates = c.from.ensures ∙ ap (λ (q : Parts). q.sizes.gates) p.parts in
     let operands : c.from-2.result ≡ (sizes_of bytes).operands = c.from-2.ensures ∙ ap (λ (q : Parts). q.sizes.operands) p.parts in
@@ -20,11 +20,11 @@ pub returns : goal.returns
 returns c =
     let bytes = c.args.circuit.now in
     let out = c.args.out.now in
-    let p = c.in-ok-s.ensures in
+    let p = c.in_ok-s.ensures in
     let gates : c.from.result ≡ (sizes_of bytes).gates = c.from.ensures ∙ ap (λ (q : Parts). q.sizes.gates) p.parts in
     let operands : c.from-2.result ≡ (sizes_of bytes).operands = c.from-2.ensures ∙ ap (λ (q : Parts). q.sizes.operands) p.parts in
     let rows : c.from-3.result ≡ (sizes_of bytes).rows = c.from-3.ensures ∙ ap (λ (q : Parts). q.sizes.rows) p.parts in
     let all : length bytes - 0 ≡ length bytes = omega arith in (
       copy_passes bytes (length out) p.passes (omega arith),
-      ap₂ ◌++◌ (c.write-copy.ensures ∙ copy_is bytes c.from.result c.from-2.result c.from-3.result gates operands rows) (ap (λ (k : ℕ). drop k out) all),
+      ap₂ ◌++◌ (c.write_copy.ensures ∙ copy_is bytes c.from.result c.from-2.result c.from-3.result gates operands rows) (ap (λ (k : ℕ). drop k out) all),
     )

@@ -7,15 +7,15 @@ use Rattle.tables.proofs.Packing.{listed_all}
 use Rattle.memory.specs.Outputs.{colour_at}
 use Rattle.memory.proofs.outputs.write_colours.Goals as goal
 
-pub output-colour-requires : goal.output-colour-requires
-output-colour-requires g c =
+pub output_colour-requires : goal.output_colour-requires
+output_colour-requires g c =
     let b = each_below (word_at c.args.list.now) _ _ c.requires.order c.loop-o.o (omega arith) in
     record { there = omega arith; order = b }
 
 pub loop-o-preserved : goal.loop-o-preserved
 loop-o-preserved g c =
     there_first 0 c.loop-o.o (colour_at g.L.Label.kind c.args.wires.now c.args.list.now) c.loop-o.colours _ c.loop-o.invariant (omega arith)
-    (c.bit-byte.ensures ∙ ap digit c.output-colour.ensures)
+    (c.bit_byte.ensures ∙ ap digit c.output_colour.ensures)
 
 pub returns : goal.returns
 returns g c =

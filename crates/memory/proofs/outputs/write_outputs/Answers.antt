@@ -8,8 +8,8 @@ use Rattle.tables.proofs.Packing.{listed_all}
 use Rattle.tables.specs.Table.{places}
 use Rattle.memory.proofs.outputs.write_outputs.Goals as goal
 
-pub output-colour-requires : goal.output-colour-requires
-output-colour-requires g c =
+pub output_colour-requires : goal.output_colour-requires
+output_colour-requires g c =
     let b = each_below (word_at c.args.list.now) _ _ c.requires.order c.loop-o.o (omega arith) in
     record { there = omega arith; order = b }
 
@@ -18,7 +18,7 @@ loop-o-preserved g c =
     let K = g.L.Label.kind in
     let f : ℕ → ℕ = λ o. digit (differs (K.colour (places K c.args.wires.now (word_at c.args.list.now o))) (eqb (get_or c.args.colours.now o 0) 1)) in
     there_first 0 c.loop-o.o f c.loop-o.outputs _ c.loop-o.invariant (omega arith)
-    (c.decoded-bit.ensures ∙ ap (λ b. digit (differs b (eqb (get_or c.args.colours.now c.loop-o.o 0) 1))) c.output-colour.ensures)
+    (c.decoded_bit.ensures ∙ ap (λ b. digit (differs b (eqb (get_or c.args.colours.now c.loop-o.o 0) 1))) c.output_colour.ensures)
 
 pub returns : goal.returns
 returns g c =

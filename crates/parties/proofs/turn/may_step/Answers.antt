@@ -8,11 +8,11 @@ use Rattle.circuit.proofs.Circuits.{form_known, gates_pass}
 use Rattle.parties.proofs.Decided.{step_none}
 use Rattle.parties.proofs.turn.may_step.Goals as goal
 
-pub bits-at-bits-requires : goal.bits-at-bits-requires
-bits-at-bits-requires g c =
-    let e = c.in-ok-c.ensures in
+pub bits_at-bits-requires : goal.bits_at-bits-requires
+bits_at-bits-requires g c =
+    let e = c.in_ok-c.ensures in
     let p = e.2 in
-    let q : Parts = parts_in c.in-ok-c.c.arrays in
+    let q : Parts = parts_in c.in_ok-c.c.arrays in
     let same : c.args.side.now.sizes.gates ≡ q.sizes.gates = ap (λ (z : Sizes). z.gates) e.3.sizes in
     let left = c.requires.left e.1 in
     let there : c.args.side.now.next < q.sizes.gates = omega arith in
@@ -21,18 +21,18 @@ bits-at-bits-requires g c =
 pub returns : goal.returns
 returns g c =
     let K = g.L.Label.kind in
-    let e = c.in-ok-c.ensures in
+    let e = c.in_ok-c.ensures in
     let p = e.2 in
-    let q : Parts = parts_in c.in-ok-c.c.arrays in
+    let q : Parts = parts_in c.in_ok-c.c.arrays in
     let s = c.args.side.now in
     let bytes = c.args.circuit.now in
     let same : s.sizes.gates ≡ q.sizes.gates = ap (λ (z : Sizes). z.gates) e.3.sizes in
     let left = c.requires.left e.1 in
-    let l : c.in-ok-c.c.wires ≤ c.args.wires = omega arith in
+    let l : c.in_ok-c.c.wires ≤ c.args.wires = omega arith in
     let k = p.count in
     let w : wires_in q ≡ wires_in (parts_of bytes) = ap (λ (r : Parts). wires_in r) p.parts in
-    let b = c.bits-at-bits.ensures.bits in
-    let size : (c.bits-at-bits.result + 7) / 8 ≡ gate_bytes (8 * K.width) (form_of q s.next) = ap (λ (n : ℕ). (n + 7) / 8) b in
+    let b = c.bits_at-bits.ensures.bits in
+    let size : (c.bits_at-bits.result + 7) / 8 ≡ gate_bytes (8 * K.width) (form_of q s.next) = ap (λ (n : ℕ). (n + 7) / 8) b in
     let f : gate_bytes (8 * K.width) (form_of q s.next) ≡ gate_bytes (8 * K.width) (form_of (parts_of bytes) s.next) = ap (λ (r : Parts). gate_bytes (8 * K.width) (form_of r s.next)) p.parts in
     let m = c.if-material-side.false in (
       step_none s bytes c.args.turn e.0 c.args.wires (omega arith) K c.args.scratch c.args.material c.if-scratch-lt256.false (omega arith),
@@ -49,7 +49,7 @@ returns g c =
         room = omega arith;
         scratch_room = c.if-scratch-lt256.false;
         bits_are = b;
-        bits_few = c.bits-at-bits.ensures.few;
+        bits_few = c.bits_at-bits.ensures.few;
         material_room = omega arith;
       },
     )

@@ -11,21 +11,21 @@ use Rattle.tables.specs.Table.{places}
 use Rattle.steps.proofs.Arms.{grown_as, reads_made, room_for, two_operands, xor_labels, and_labels, table_labels, half, xor_calls, and_calls, table_calls, and_bytes, table_bytes, table_least}
 use Rattle.steps.proofs.evaluate.evaluate_gate.Goals as goal
 
-pub passed-gate-requires : goal.passed-gate-requires
-passed-gate-requires g c =
+pub passed_gate-requires : goal.passed_gate-requires
+passed_gate-requires g c =
     let p : Parts = parts_in c.args.a in
     record { there = c.requires.there; whole = c.requires.passes.0; passed = gate_shape p c.args.g (each_passes p _ c.requires.passes.1 c.args.g c.requires.there) }
 
-pub xor-wire-requires : goal.xor-wire-requires
-xor-wire-requires g c =
+pub xor_wire-requires : goal.xor_wire-requires
+xor_wire-requires g c =
     let p : Parts = parts_in c.args.a in
     let at = c.in-Xor.ensures in
     let made = c.args.wires.now.made in
     let room = room_for p c.args.g (Gate.Xor c.in-Xor.operands) made _ at c.requires.there c.requires.made c.requires.room in
     record { shaped = at.2; order = two_operands p c.args.g c.in-Xor.operands made at.2 (reads_made p c.args.g (Gate.Xor c.in-Xor.operands) made at c.requires.there c.requires.passes.1 c.requires.made); room = omega arith }
 
-pub evaluate-and-requires : goal.evaluate-and-requires
-evaluate-and-requires g c =
+pub evaluate_and-requires : goal.evaluate_and-requires
+evaluate_and-requires g c =
     let p : Parts = parts_in c.args.a in
     let at = c.in-And.ensures in
     let made = c.args.wires.now.made in
@@ -37,8 +37,8 @@ evaluate-and-requires g c =
       lent = c.requires.lent.0 ∙ and_bytes p c.args.g g.L.Label.kind.width c.in-And.operands at;
     }
 
-pub evaluate-table-requires : goal.evaluate-table-requires
-evaluate-table-requires g c =
+pub evaluate_table-requires : goal.evaluate_table-requires
+evaluate_table-requires g c =
     let p : Parts = parts_in c.args.a in
     let q : ℕ = c.args.g in
     let gate : Gate = Gate.Table c.in-Table.n c.in-Table.m c.in-Table.operands c.in-Table.rows in
@@ -71,7 +71,7 @@ returns-in-Xor g c =
     let at = c.in-Xor.ensures in
     let ws : List g.row.L.Denot = c.args.wires.now.values.now in
     let v : ℕ → g.row.L.Denot = places K ws in
-    let r = c.xor-wire.ensures in
+    let r = c.xor_wire.ensures in
     let few = g.met.H.LabelHash.fits c.args.h.now in
     record {
       made = r.made ∙ made_after p q (Gate.Xor ops) _ 1 at c.requires.made refl;
@@ -92,7 +92,7 @@ returns-in-And g c =
     let at = c.in-And.ensures in
     let ws : List g.row.L.Denot = c.args.wires.now.values.now in
     let v : ℕ → g.row.L.Denot = places K ws in
-    let r = c.evaluate-and.ensures in
+    let r = c.evaluate_and.ensures in
     let ek = c.from.ensures in
     record {
       made = r.made ∙ made_after p q (Gate.And ops) _ 1 at c.requires.made refl;
@@ -115,7 +115,7 @@ returns-in-Table g c =
     let at : GateAt p q gate = c.in-Table.ensures in
     let ws : List g.row.L.Denot = c.args.wires.now.values.now in
     let v : ℕ → g.row.L.Denot = places K ws in
-    let r = c.evaluate-table.ensures in
+    let r = c.evaluate_table.ensures in
     let ek = c.from-in-Table.ensures in
     let ep = c.from-in-Table-2.ensures in
     let h = half p q K v F c.in-Table.n c.in-Table.m ops rows at _ _ ek ep in

@@ -1,4 +1,4 @@
 use Rattle.steps.proofs.evaluate.evaluate_table.Goals as goal
 
-pub whole-as-slice·evaluate-through : goal.whole-as-slice·evaluate-through
-whole-as-slice·evaluate-through g c = c.eight-fit.ensures
+pub whole_as_slice-evaluate_through : goal.whole_as_slice-evaluate_through
+whole_as_slice-evaluate_through g c = c.eight_fit.ensures

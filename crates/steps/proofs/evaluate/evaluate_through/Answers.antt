@@ -23,8 +23,8 @@ returns g c =
     let d : length (drop made ws) ≡ length ws - made = length-drop made ws in
     let l : length (take (made + m - made) (drop made ws)) ≡ m = length-take-le (made + m - made) (drop made ws) (omega arith) ∙ k in
     let n0 : n - 0 ≡ n = omega arith in
-    let ez : take (n - 0) c.read-operands.new.out ≡ listed n f = ap (λ (i : ℕ). take i c.read-operands.new.out) n0 ∙ c.read-operands.ensures in
-    let en : length (take (n - 0) c.read-operands.new.out) ≡ n = ap length ez ∙ length_listed f n in
+    let ez : take (n - 0) c.read_operands.new.out ≡ listed n f = ap (λ (i : ℕ). take i c.read_operands.new.out) n0 ∙ c.read_operands.ensures in
+    let en : length (take (n - 0) c.read_operands.new.out) ≡ n = ap length ez ∙ length_listed f n in
     let r = c.evaluate.ensures in
     let news = r.news ∙ (λ i. evaluated K F c.args.gate (en i) (l i) c.args.material.now (places K (ez i))) in
     record {

@@ -1,4 +1,4 @@
 use Rattle.steps.proofs.garble.garble_table.Goals as goal
 
-pub whole-as-slice·garble-through : goal.whole-as-slice·garble-through
-whole-as-slice·garble-through g c = c.eight-fit.ensures
+pub whole_as_slice-garble_through : goal.whole_as_slice-garble_through
+whole_as_slice-garble_through g c = c.eight_fit.ensures

@@ -23,7 +23,7 @@ returns g c =
     let d : length (drop made ws) ≡ length ws - made = length-drop made ws in
     let l : length (take (made + m - made) (drop made ws)) ≡ m = length-take-le (made + m - made) (drop made ws) (omega arith) ∙ k in
     let n0 : n - 0 ≡ n = omega arith in
-    let ez : take (n - 0) c.read-operands.new.out ≡ listed n f = ap (λ (i : ℕ). take i c.read-operands.new.out) n0 ∙ c.read-operands.ensures in
+    let ez : take (n - 0) c.read_operands.new.out ≡ listed n f = ap (λ (i : ℕ). take i c.read_operands.new.out) n0 ∙ c.read_operands.ensures in
     let r = c.garble.ensures in
     let news = r.news ∙ ap₂ (λ (xs : List g.row.L.Denot) (i : ℕ). zeros_for K F c.args.gate c.args.seed c.args.offset xs c.args.rows.now i) ez l in
     record {

@@ -15,7 +15,7 @@ pub advance-requires : goal.advance-requires
 advance-requires g c =
     let r = c.requires.ready in
     let w = c.requires.within in
-    let few = made_few _ _ _ _ _ _ _ r c.evaluate-gate.new.wires.made c.evaluate-gate.ensures.made in
+    let few = made_few _ _ _ _ _ _ _ r c.evaluate_gate.new.wires.made c.evaluate_gate.ensures.made in
     let t = r.there in
     let f = r.few in
     let b = r.bits_few in
@@ -28,18 +28,18 @@ returns g c =
     let s = c.args.side.now in
     let p : Parts = parts_in c.args.a in
     let r = c.requires.ready in
-    let e = c.evaluate-gate.ensures in
+    let e = c.evaluate_gate.ensures in
     let size = bytes_are _ _ _ _ _ _ _ r in
     let k : ℕ = (c.args.bits + 7) / 8 in
     let same : s.bytes + k - s.bytes ≡ gate_bytes (8 * K.width) (form_of p s.next) = omega arith in
     let ep : take (s.bytes + k - s.bytes) (drop s.bytes c.args.material.now) ≡ part s.bytes (gate_bytes (8 * K.width) (form_of p s.next)) c.args.material.now = ap (λ (n : ℕ). take n (drop s.bytes c.args.material.now)) same in
     let ev = c.new-store.ensures.values in
     let vs : List g.row.L.Denot = c.new-store.result.values.now in
-    let ws : List g.row.L.Denot = c.evaluate-gate.new.wires.values.now in
+    let ws : List g.row.L.Denot = c.evaluate_gate.new.wires.values.now in
     let G : List ℕ → Type 0 = λ bs. Grown (made_before p s.next) (makes (form_of p s.next)) (places K (new_labels p s.next K (places K vs) F bs)) vs ws in
     record {
       stepped = record {
-        side_is = stepped_as _ _ _ _ _ _ _ r c.advance.new.self c.evaluate-gate.new.wires.made e.made c.advance.ensures;
+        side_is = stepped_as _ _ _ _ _ _ _ r c.advance.new.self c.evaluate_gate.new.wires.made e.made c.advance.ensures;
         wires = grown_in _ _ _ (λ (xs : List g.row.L.Denot). places K (new_labels p s.next K (places K xs) F (part s.bytes (gate_bytes (8 * K.width) (form_of p s.next)) c.args.material.now))) vs ws _ _ (sym r.made) ev (search rules) (subst G ep e.grown);
         scratch_is = e.scratch;
       };

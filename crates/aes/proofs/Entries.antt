@@ -1,5 +1,5 @@
 -- The rule of each table, for all of its entries at once, and that the inverse is one. Assumes nothing.
-use Rattle.std.proofs.Common.{◌≡◌, ℕ, ◌+◌, ◌*◌, ◌<◌, min, Bool, true, false, T, eqb, List, [], ◌∷◌, get_or, ap, ◌∙◌, arith, eqb→eq}
+use Rattle.std.proofs.Common.{◌≡◌, ℕ, ◌+◌, ◌*◌, ◌<◌, min, Bool, T, eqb, List, get_or, ap, ◌∙◌, arith, eqb→eq}
 use Rattle.aes.specs.Field.{xtime, times_low, times, squares, inverse, InverseLaw}
 use Rattle.aes.specs.Bytes.{bytes4}
 use Rattle.aes.proofs.Tests.{every, every_at, table, table_at, same_list, same_list→eq}

@@ -1,9 +1,9 @@
 -- What each word of the key expansion is. Assumes nothing.
-use Rattle.std.proofs.Common.{◌≡◌, ℕ, zero, suc, ◌+◌, ◌-◌, ◌*◌, ◌<◌, ◌≤◌, ◌⊎◌, List, [], ◌∷◌, ◌++◌, length, get_or, sym, refl, ap, ◌∙◌, inl, inr, eq-or-lt_of_le, arith}
+use Rattle.std.proofs.Common.{◌≡◌, ℕ, zero, suc, ◌+◌, ◌-◌, ◌<◌, ◌≤◌, List, [], ◌∷◌, length, get_or, sym, refl, ◌∙◌, inl, inr, eq-or-lt_of_le, arith}
 use Rattle.std.proofs.lemmas.List.{length-append, get_or_append_left, get_or_push}
 use Rattle.aes.specs.Bytes.{bytes4, xors}
 use Rattle.aes.specs.Columns.{columns}
-use Rattle.aes.specs.KeyExpansion.{term, next_word, schedule, key_expansion, four_words, round_key}
+use Rattle.aes.specs.KeyExpansion.{term, next_word, schedule, key_expansion}
 
 module _ (key : List ℕ) where
   long : (n : ℕ) → length (schedule key n) ≡ 4 + n

@@ -1,5 +1,5 @@
 -- The bytes of a word of 64 bits, by halves. Assumes nothing.
-use Rattle.std.proofs.Common.{◌≡◌, ℕ, ◌+◌, ◌-◌, ◌*◌, ◌/◌, ◌%◌, ◌^◌, ◌<◌, List, [], ◌∷◌, ◌++◌, sym, ap, ◌∙◌, arith}
+use Rattle.std.proofs.Common.{◌≡◌, ℕ, ◌+◌, ◌-◌, ◌*◌, ◌/◌, ◌%◌, ◌^◌, ◌<◌, ◌++◌, ap, ◌∙◌, arith}
 use lib.Bits.{bit_and, bit_or, or_shifted, and_mask}
 use Rattle.std.proofs.lemmas.Nat.{div-mul-add, mod-mul-add, field_of, shr-shr, mod-pow-add, pow_pos, mod_below}
 use Rattle.aes.specs.Bytes.{byte, bytes4, bytes8}

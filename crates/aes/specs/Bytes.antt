@@ -1,5 +1,5 @@
 -- The bytes of numbers, lowest first, and the sum of two lists of bytes. Assumes nothing.
-use Rattle.std.specs.Prelude.{ℕ, ◌*◌, ◌/◌, ◌%◌, ◌^◌, List, [], ◌∷◌, ◌++◌, bit_xor}
+use Rattle.std.specs.Prelude.{ℕ, ◌*◌, ◌/◌, ◌%◌, ◌^◌, List, [], ◌∷◌, bit_xor}
 
 -- byte i of a number
 unfoldable pub byte : ℕ → ℕ → ℕ

@@ -1,5 +1,5 @@
 -- The field GF(2^8) of FIPS 197. A byte is a number below 256, its bits the coefficients of a polynomial. Assumes nothing.
-use Rattle.std.specs.Prelude.{◌≡◌, ℕ, zero, suc, ◌*◌, ◌/◌, ◌%◌, ◌<◌, Bool, true, false, cond, ◌==◌, bit_xor, nat_lt}
+use Rattle.std.specs.Prelude.{◌≡◌, ℕ, zero, suc, ◌*◌, ◌/◌, ◌%◌, ◌<◌, cond, ◌==◌, bit_xor, nat_lt}
 
 -- times x, modulo x^8 + x^4 + x^3 + x + 1, which is 0x11b
 unfoldable pub xtime : ℕ → ℕ

@@ -1,5 +1,5 @@
 -- The key expansion of AES-128, as FIPS 197 has it: 44 words of four bytes from a key of 16 bytes. Assumes nothing.
-use Rattle.std.specs.Prelude.{ℕ, zero, suc, ◌+◌, ◌-◌, ◌*◌, ◌/◌, ◌%◌, Bool, cond, List, [], ◌∷◌, ◌++◌, map, take, drop, ◌==◌, slice_index_or}
+use Rattle.std.specs.Prelude.{ℕ, zero, suc, ◌+◌, ◌-◌, ◌*◌, ◌/◌, ◌%◌, cond, List, [], ◌∷◌, ◌++◌, map, take, drop, ◌==◌, slice_index_or}
 use Rattle.aes.specs.Field.{x_power}
 use Rattle.aes.specs.SBox.{s_box}
 use Rattle.aes.specs.Bytes.{xors}

@@ -1,4 +1,6 @@
 // Circuits: the format and its check.
+#![tactic(auto)]
+
 pub mod arrays;
 pub mod check;
 pub mod gate;

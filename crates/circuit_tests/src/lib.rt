@@ -1,3 +1,5 @@
+#![tactic(auto)]
+
 // Circuits at the edges of the rules: accepted just inside, refused just outside.
 #[cfg(test)]
 mod built;

@@ -1,4 +1,6 @@
 // The evaluator and its calls on lent memory.
+#![tactic(auto)]
+
 pub mod decoding;
 pub mod delivering;
 pub mod evaluating;

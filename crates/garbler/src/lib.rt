@@ -1,4 +1,6 @@
 // The garbler and its calls on lent memory.
+#![tactic(auto)]
+
 pub mod colouring;
 pub mod encoding;
 pub mod garbling;

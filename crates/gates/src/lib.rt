@@ -1,4 +1,6 @@
 // The XOR gate and the AND half gate, and what every gate needs: tweaks, typeof.b.L, labels in bytes, cleared scratch.
+#![tactic(auto)]
+
 pub mod clear;
 pub mod half;
 pub mod rows;

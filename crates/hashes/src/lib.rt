@@ -1,4 +1,6 @@
 // Hashes over a label kind: the interface, the draws from a seed, and the named hashes.
+#![tactic(auto)]
+
 pub mod aes_hash;
 pub mod draws;
 pub mod hash;

@@ -1,15 +1,14 @@
 -- How the refusals of a worksheet's input come about. Assumes nothing.
-use Rattle.std.proofs.Common.{◌≡◌, ℕ, zero, suc, ◌+◌, ◌-◌, ◌*◌, ◌<◌, ◌≤◌, Bool, true, false, cond, not, ◌||◌, eqb, ltb, List, [], ◌∷◌, length, get_or, take, drop, Some, None, Option, sym, refl, ap, ◌∙◌, subst, ap₂, inl, inr, arith}
+use Rattle.std.proofs.Common.{◌≡◌, ℕ, ◌+◌, ◌*◌, ◌<◌, ◌≤◌, Bool, true, false, not, ◌||◌, eqb, ltb, List, [], ◌∷◌, length, get_or, take, Some, None, sym, refl, ◌∙◌, ap₂, arith}
 use Rattle.std.proofs.lemmas.Bool.{lt-ltb, le-ltb, eq-eqb, ne_eqb, eqb-true}
 use Rattle.std.proofs.lemmas.List.{get_or-take, length-drop}
-use Rattle.circuit.specs.Refusals.{first_of, or_else}
+use Rattle.circuit.specs.Refusals.{first_of}
 use Rattle.circuit.specs.Words.{word_at, all_below}
-use Rattle.circuit.specs.Header.{sizes_of, within, words_in}
-use Rattle.circuit.specs.Parts.{Parts, parts_of}
+use Rattle.circuit.specs.Header.{sizes_of, within}
+use Rattle.circuit.specs.Parts.{parts_of}
 use Rattle.circuit.specs.Gates.{wires_in}
 use Rattle.circuit.specs.Check.{circuit_refusal}
 use Rattle.plain.specs.Plain.{plain_refusal}
-use Rattle.circuit.specs.declared.sizes.Sizes.{Sizes}
 use Rattle.circuit.specs.declared.refusal.Refusal.{Refusal}
 use Rattle.circuit.specs.declared.refusal.Refusal.TheVariants.{Short, Size, Length, Memory, Bit}
 use Rattle.circuit.proofs.Checks.{or_else_none}

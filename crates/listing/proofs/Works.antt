@@ -1,14 +1,13 @@
 -- The work of an input that was cut, from what read and plain promise. Assumes nothing.
-use Rattle.std.proofs.Common.{◌≡◌, ℕ, ◌+◌, ◌<◌, ◌≤◌, Bool, true, false, not, List, [], ◌∷◌, ◌++◌, length, get_or, take, Some, None, Option, sym, refl, ap, ◌∙◌, subst, ap₂, arith}
+use Rattle.std.proofs.Common.{◌≡◌, ℕ, ◌+◌, ◌≤◌, Bool, true, false, List, ◌++◌, length, take, Some, None, sym, ap, ◌∙◌, subst, ap₂, arith}
 use Rattle.std.proofs.lemmas.List.{get_or_append_left, length-append, length-take-le}
 use Rattle.std.proofs.lemmas.Bool.Decides.{nat_tests}
-use Rattle.labels.specs.Numbers.{digit}
 use Rattle.circuit.specs.Header.{sizes_of, within}
 use Rattle.circuit.specs.Parts.{Parts, parts_of}
-use Rattle.circuit.specs.Gates.{wires_in, output_of}
+use Rattle.circuit.specs.Gates.{wires_in}
 use Rattle.circuit.specs.Check.{circuit_refusal}
 use Rattle.circuit.specs.Passed.{Passed}
-use Rattle.plain.specs.Plain.{bit_in, plain_bit, plain_refusal, Evaluated}
+use Rattle.plain.specs.Plain.{plain_refusal, Evaluated}
 use Rattle.circuit.specs.declared.sizes.Sizes.{Sizes}
 use Rattle.circuit.specs.declared.refusal.Refusal.{Refusal}
 use Rattle.listing.specs.Worksheet.{circuit_in, bits_from, worksheet_refusal}

@@ -1,5 +1,5 @@
 -- Lines of text, as bytes. Assumes nothing.
-use Rattle.std.specs.Prelude.{ℕ, zero, suc, Bool, List, [], ◌∷◌, ◌++◌, codes, decimal}
+use Rattle.std.specs.Prelude.{ℕ, zero, suc, Bool, List, [], ◌++◌, codes, decimal}
 use Rattle.labels.specs.Numbers.{digit}
 use Rattle.circuit.specs.Refusals.{number_of}
 use Rattle.circuit.specs.declared.refusal.Refusal.{Refusal}

@@ -2,7 +2,7 @@
 use Rattle.std.specs.Prelude.{◌≡◌, ℕ, ◌<◌, ◌≤◌, Bool, true, false, List, length, None, slice_index, slice_index_or}
 use Rattle.labels.specs.Numbers.{digit}
 use Rattle.circuit.specs.Header.{sizes_of, within}
-use Rattle.circuit.specs.Parts.{Parts, parts_of}
+use Rattle.circuit.specs.Parts.{parts_of}
 use Rattle.circuit.specs.Gates.{wires_in, output_of}
 use Rattle.plain.specs.Plain.{bit_in, plain_bit}
 use Rattle.listing.specs.Worksheet.{input_refusal, circuit_in, bits_from, worksheet_refusal}

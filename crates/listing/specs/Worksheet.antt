@@ -1,5 +1,5 @@
 -- The worksheet: its input, its first refusal and its text. Assumes nothing.
-use Rattle.std.specs.Prelude.{ℕ, ◌+◌, ◌*◌, Bool, not, List, [], ◌∷◌, ◌++◌, length, take, drop, Some, None, Option, ◌==◌, nat_lt, slice_index}
+use Rattle.std.specs.Prelude.{ℕ, ◌+◌, ◌*◌, not, List, [], ◌∷◌, ◌++◌, length, take, drop, Some, None, Option, ◌==◌, nat_lt, slice_index}
 use Rattle.labels.specs.Numbers.{digit}
 use Rattle.circuit.specs.Refusals.{first_of, or_else}
 use Rattle.circuit.specs.Words.{all_below}

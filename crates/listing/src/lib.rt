@@ -1,4 +1,6 @@
 // What the programs print, as library functions from bytes to text.
+#![tactic(auto)]
+
 pub mod dividend;
 mod lines;
 pub mod worksheet;

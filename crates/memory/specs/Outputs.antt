@@ -1,5 +1,5 @@
 -- Colours of the outputs' zero labels, and the output bits that they turn labels into. Assumes nothing.
-use Rattle.std.specs.Prelude.{◌≡◌, ℕ, List, length, ◌==◌, slice_index}
+use Rattle.std.specs.Prelude.{ℕ, List, ◌==◌, slice_index}
 use Rattle.labels.specs.Kind.{Kind, differs}
 use Rattle.labels.specs.Numbers.{digit}
 use Rattle.circuit.specs.Words.{word_at}

@@ -1,10 +1,10 @@
 -- When a call is not refused. Assumes nothing.
-use Rattle.std.proofs.Common.{◌≡◌, ℕ, ◌+◌, ◌*◌, ◌<◌, ◌≤◌, Bool, true, false, eqb, ltb, List, length, get_or, None, sym, ap, ◌∙◌, subst, arith}
+use Rattle.std.proofs.Common.{◌≡◌, ℕ, ◌+◌, ◌*◌, ◌≤◌, Bool, true, false, eqb, ltb, List, None, ap, ◌∙◌, subst, arith}
 use Rattle.std.proofs.lemmas.Bool.{le-ltb, eq-eqb}
 use Rattle.labels.specs.Kind.{Kind}
 use Rattle.hashes.specs.Draws.{offset}
 use Rattle.wires.specs.Wires.{Filled}
-use Rattle.circuit.specs.Words.{word_at, all_below}
+use Rattle.circuit.specs.Words.{word_at}
 use Rattle.circuit.specs.Parts.{Parts, parts_of}
 use Rattle.circuit.specs.Gates.{form_of, output_of, wires_in}
 use Rattle.circuit.specs.Material.{gate_bytes}

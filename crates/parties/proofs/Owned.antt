@@ -1,5 +1,5 @@
 -- What it tells that a circuit is the side's own. Assumes nothing.
-use Rattle.std.proofs.Common.{◌≡◌, ℕ, Bool, true, false, ◌&&◌, eqb, sym, refl, ap, ◌∙◌, eq-eqb, ne_eqb, eqb-true}
+use Rattle.std.proofs.Common.{◌≡◌, ℕ, Bool, true, false, eqb, sym, ◌∙◌, eq-eqb, ne_eqb, eqb-true}
 use Rattle.labels.specs.Longs.{and_left, and_right}
 use Rattle.circuit.specs.Parts.{Parts}
 use Rattle.circuit.specs.Gates.{made_before, wires_in}

@@ -1,12 +1,12 @@
 -- One gate further. Assumes nothing.
-use Rattle.std.proofs.Common.{◌≡◌, ℕ, suc, ◌+◌, ◌-◌, ◌*◌, ◌/◌, ◌≤◌, List, length, take, drop, sym, ap, ◌∙◌, subst, ap₂, arith}
+use Rattle.std.proofs.Common.{◌≡◌, ℕ, suc, ◌+◌, ◌-◌, ◌*◌, ◌/◌, ◌≤◌, List, length, take, drop, ap, ◌∙◌, subst, ap₂, arith}
 use Rattle.std.proofs.lemmas.List.{length-drop, length-take-le}
 use Rattle.labels.specs.Kind.{Kind}
 use Rattle.wires.specs.Wires.{Grown}
 use Rattle.circuit.specs.Parts.{Parts}
 use Rattle.circuit.specs.Forms.{makes}
-use Rattle.circuit.specs.Gates.{form_of, made_before, wires_in}
-use Rattle.circuit.specs.Material.{gate_bits, gate_bytes}
+use Rattle.circuit.specs.Gates.{form_of, made_before}
+use Rattle.circuit.specs.Material.{gate_bytes}
 use Rattle.circuit.proofs.GateParts.{made_within}
 use Rattle.parties.specs.declared.side.Side.{Side}
 use Rattle.parties.specs.Side.{stepped}

@@ -4,7 +4,7 @@ use Rattle.std.specs.Prelude.{ℕ, ◌+◌, ◌*◌, Bool, not, ◌&&◌, ◌||�
 use Rattle.labels.specs.Kind.{Kind}
 use Rattle.hashes.specs.Draws.{offset}
 use Rattle.circuit.specs.Words.{all_below}
-use Rattle.circuit.specs.Parts.{Parts, parts_of}
+use Rattle.circuit.specs.Parts.{parts_of}
 use Rattle.circuit.specs.Gates.{form_of, wires_in}
 use Rattle.circuit.specs.Material.{gate_bytes}
 use Rattle.circuit.specs.Check.{circuit_refusal}
@@ -13,7 +13,7 @@ use Rattle.circuit.specs.declared.refusal.Refusal.{Refusal}
 use Rattle.circuit.specs.declared.refusal.Refusal.TheVariants.{Turn, Memory, Material, Number, Bit, Again, ZeroSeed, Colourless}
 use Rattle.memory.specs.Seed.{blank}
 use Rattle.parties.specs.declared.side.Side.{Side}
-use Rattle.parties.specs.declared.state.Call.TheVariants.{Join, Deliver, Evaluate, Decode, Wipe}
+use Rattle.parties.specs.declared.state.Call.TheVariants.{Join, Deliver, Evaluate, Decode}
 use Rattle.parties.specs.Marks.{is_marked}
 use Rattle.parties.specs.Turns.{is_its, gates_left}
 use Rattle.parties.specs.States.{state_of, allowed}

@@ -1,5 +1,5 @@
 -- What a side keeps of its circuit and of its way through it. Assumes nothing.
-use Rattle.std.specs.Prelude.{ℕ, ◌+◌, ◌*◌, ◌^◌, ◌≤◌, Bool, true, false, replicate, slice_set}
+use Rattle.std.specs.Prelude.{ℕ, ◌+◌, ◌*◌, ◌^◌, ◌≤◌, true, false, replicate, slice_set}
 use Rattle.circuit.specs.declared.sizes.Sizes.{Sizes}
 use Rattle.parties.specs.declared.side.Side.{Side}
 

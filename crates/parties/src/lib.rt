@@ -1,4 +1,6 @@
 // What both parties keep of a circuit, and what each of their calls decides first.
+#![tactic(auto)]
+
 pub mod side;
 pub mod state;
 pub mod turn;

@@ -1,4 +1,6 @@
 // The figures for the pencil, with the paper label and the paper hash.
+#![tactic(auto)]
+
 ghost use Rattle.pencil.specs.Figures.{Figures};
 
 use gates::{half, xor};

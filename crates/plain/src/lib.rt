@@ -1,2 +1,4 @@
 // Plain evaluation of a circuit.
+#![tactic(auto)]
+
 pub mod run;

@@ -1,4 +1,6 @@
 // Two tracks' ticket counts become one joint dividend: `settle CIRCUIT FIRST SECOND` prints the work, wire by wire.
+#![tactic(auto)]
+
 use anyhow::anyhow;
 use listing::dividend::settle_text;
 use std::{env, fs};

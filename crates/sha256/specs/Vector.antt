@@ -1,5 +1,5 @@
 -- A published vector: the digest of "abc". Assumes nothing.
-use Rattle.std.specs.Prelude.{◌≡◌, ℕ, List, [], ◌∷◌, codes}
+use Rattle.std.specs.Prelude.{◌≡◌, [], ◌∷◌, codes}
 use Rattle.sha256.specs.Digest.{digest}
 
 abbrev pub DigestOfAbc : Type 0

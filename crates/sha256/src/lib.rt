@@ -1,4 +1,6 @@
 // SHA-256 (FIPS 180-4).
+#![tactic(auto)]
+
 mod compression;
 mod functions;
 mod padding;

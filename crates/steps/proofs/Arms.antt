@@ -1,20 +1,20 @@
 -- What the definitions of a gate give at each form, in the words of the code's gate. Assumes nothing.
-use Rattle.std.proofs.Common.{◌≡◌, ℕ, suc, ◌+◌, ◌*◌, ◌/◌, ◌^◌, ◌<◌, ◌≤◌, true, false, eqb, leb, List, [], ◌∷◌, ◌++◌, length, get_or, None, sym, refl, ap, ◌∙◌, subst, ap₂, inl, inr, arith, Bor}
+use Rattle.std.proofs.Common.{◌≡◌, ℕ, suc, ◌+◌, ◌*◌, ◌/◌, ◌^◌, ◌<◌, ◌≤◌, true, false, eqb, leb, List, [], ◌++◌, length, get_or, None, sym, refl, ap, ◌∙◌, ap₂, arith, Bor}
 use Rattle.std.proofs.lemmas.Bool.{eq-eqb, ne_eqb, le-leb}
 use Rattle.std.proofs.lemmas.Bool.Decides.{nat_tests}
 use Rattle.labels.specs.Kind.{Kind}
 use Rattle.wires.specs.Wires.{Grown}
 use Rattle.circuit.specs.Words.{word_at, all_below, part}
 use Rattle.circuit.specs.Parts.{Parts}
-use Rattle.circuit.specs.Forms.{is_table, fan_in, fan_out, reads, makes}
+use Rattle.circuit.specs.Forms.{is_table, fan_in, fan_out, reads}
 use Rattle.circuit.specs.Gates.{form_of, operand_of, rows_from, made_before, wires_in}
-use Rattle.circuit.specs.Material.{gate_bits, gate_bytes}
-use Rattle.circuit.specs.Check.{gate_refusal, gates_refusal}
+use Rattle.circuit.specs.Material.{gate_bytes}
+use Rattle.circuit.specs.Check.{gates_refusal}
 use Rattle.circuit.specs.Lent.{GateAt, new_in, operands_in}
 use Rattle.circuit.specs.declared.gate.Gate.{Gate}
 use Rattle.circuit.specs.declared.gate.Gate.TheVariants.{Xor, And, Table}
 use Rattle.circuit.proofs.Checks.{each_passes, gate_in_order}
-use Rattle.circuit.proofs.GateParts.{table_high, gate_operand, gate_order, gate_makes, made_after, made_within}
+use Rattle.circuit.proofs.GateParts.{table_high, gate_operand, gate_order, made_after, made_within}
 use Rattle.gates.specs.Half.{garbled, joined}
 use Rattle.gates.specs.Bytes.{part as bytes-at}
 use Rattle.gates.specs.Size.{bytes_of}

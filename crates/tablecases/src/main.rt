@@ -1,5 +1,7 @@
 // Table gates of 1 to 8 inputs and 1 to 16 outputs with each of the three hashes, a line each, to hold against an independent implementation:
 // hash, inputs, outputs, material bytes and their digest, both counts, the digests of the zero labels and of the evaluator's labels of one row.
+#![tactic(auto)]
+
 ghost use Rattle.std.specs.Prelude.{◌≡◌, ◌*◌, ◌^◌, ◌<◌, ◌≤◌, length};
 ghost use Rattle.gates.specs.Size.{bytes_of};
 

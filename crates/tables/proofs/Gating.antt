@@ -2,7 +2,6 @@
 use Rattle.std.proofs.Common.{◌≡◌, ℕ, suc, ◌+◌, ◌-◌, ◌*◌, ◌^◌, ◌<◌, ◌≤◌, List, length, drop, sym, refl, ap, ◌∙◌, arith}
 use borrow.Rule.Slice.PartMut.{put_mid}
 use Rattle.labels.specs.Kind.{Kind, times}
-use Rattle.gates.specs.Half as half-gate
 use Rattle.gates.proofs.Halves as halves
 use Rattle.labels.specs.Numbers.{bit}
 use Rattle.tables.specs.Table.{based, colours, hot, hot_row, mask_row, turned}

@@ -1,4 +1,6 @@
 // The lookup-table gate, once for all label kinds and hashes.
+#![tactic(auto)]
+
 pub mod gate;
 mod levels;
 mod number;

@@ -1,3 +1,5 @@
+#![tactic(auto)]
+
 // Published examples and values of independent implementations, run as tests.
 #[cfg(test)]
 mod aes_cipher;

@@ -1,4 +1,6 @@
 // A store of wires over lent memory: made in order, each read only once made. It serves bits and labels of any kind.
+#![tactic(auto)]
+
 ghost use Rattle.std.specs.Prelude.{◌≡◌, ◌+◌, ◌<◌, ◌≤◌, length, slice_index_or};
 ghost use Rattle.wires.specs.Wires.{Grown};
 

@@ -1,4 +1,6 @@
 // Reads a circuit, two seed bytes and the input bits from standard input, and prints the worksheet.
+#![tactic(auto)]
+
 use listing::worksheet::worksheet_text;
 use std::io;
 use std::io::Read;

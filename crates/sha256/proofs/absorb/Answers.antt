@@ -1,4 +1,4 @@
-use Rattle.std.proofs.Common.{◌≡◌, ℕ, ◌+◌, ◌-◌, ◌*◌, List, length, take, drop, sym, refl, ap, ◌∙◌, ap₂, arith}
+use Rattle.std.proofs.Common.{◌≡◌, ℕ, ◌+◌, ◌-◌, ◌*◌, take, drop, sym, ap, ◌∙◌, ap₂, arith}
 use Rattle.sha256.specs.Compression.{compressed}
 use Rattle.sha256.proofs.Blocks.{hashed_more}
 use Rattle.sha256.proofs.absorb.Goals as goal

@@ -1,4 +1,4 @@
-use Rattle.std.proofs.Common.{◌≡◌, ℕ, ◌/◌, ◌≤◌, List, ◌++◌, length, sym, ap, ◌∙◌, arith, rules}
+use Rattle.std.proofs.Common.{◌≡◌, ℕ, ◌/◌, ◌≤◌, ◌++◌, length, sym, ap, ◌∙◌, arith, rules}
 use Rattle.sha256.specs.declared.state.State.{State}
 use Rattle.sha256.specs.Constants.{initial}
 use Rattle.sha256.specs.Padding.{padding}

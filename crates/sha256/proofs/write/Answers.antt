@@ -1,4 +1,4 @@
-use Rattle.std.proofs.Common.{◌≡◌, ℕ, List, ◌++◌, replicate, refl, ◌∙◌}
+use Rattle.std.proofs.Common.{◌≡◌, ℕ, List, ◌++◌, replicate, ◌∙◌}
 use borrow.Rule.Slice.PartMut.{put_mid}
 use Rattle.sha256.specs.Words.{four}
 use Rattle.sha256.specs.declared.state.State.{State}

@@ -1,4 +1,4 @@
-use Rattle.std.proofs.Common.{◌≡◌, ℕ, ◌/◌, ◌%◌, sym, ap, ◌∙◌, arith}
+use Rattle.std.proofs.Common.{◌≡◌, ◌/◌, ◌%◌, ◌∙◌, arith}
 use lib.Bits.{and_mask}
 use Rattle.aes.specs.Bytes.{byte}
 use Rattle.aes.proofs.block.row0.Goals as goal

@@ -1,4 +1,4 @@
-use Rattle.std.proofs.Common.{◌≡◌, ◌+◌, ◌-◌, ◌<◌, ◌≤◌, refl, arith}
+use Rattle.std.proofs.Common.{◌≡◌, ◌-◌, refl, arith}
 use Rattle.aes.specs.Columns.{bytes_of}
 use Rattle.aes.specs.Cipher.{rounds, cipher}
 use Rattle.aes.proofs.Turns.{one_more}

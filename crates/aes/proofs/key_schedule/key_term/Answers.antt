@@ -1,4 +1,4 @@
-use Rattle.std.proofs.Common.{◌≡◌, ◌%◌, true, false, eqb, ◌∙◌, eq-eqb, ne_eqb}
+use Rattle.std.proofs.Common.{◌≡◌, ◌%◌, true, false, eqb, eq-eqb, ne_eqb}
 use Rattle.aes.specs.KeyExpansion.{term}
 use Rattle.aes.proofs.Words.{bytes4_xor}
 use Rattle.aes.proofs.key_schedule.key_term.Goals as goal

@@ -1,7 +1,7 @@
-use Rattle.std.proofs.Common.{◌≡◌, ℕ, List, ap, ◌∙◌}
+use Rattle.std.proofs.Common.{◌≡◌}
 use lib.Bits.{bit_xor}
 use Rattle.aes.specs.SBox.{s_box}
-use Rattle.aes.specs.Bytes.{byte, bytes4, xors}
+use Rattle.aes.specs.Bytes.{bytes4}
 use Rattle.aes.specs.Rounds.{mixed}
 use Rattle.aes.proofs.Words.{bytes4_xor, mixed_word}
 use Rattle.aes.proofs.round.full_column.Goals as goal

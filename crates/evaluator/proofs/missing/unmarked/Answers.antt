@@ -1,4 +1,4 @@
-use Rattle.std.proofs.Common.{◌≡◌, ℕ, Bool, sym, ap, ◌∙◌, arith, below_more}
+use Rattle.std.proofs.Common.{ℕ, sym, ap, ◌∙◌, arith, below_more}
 use Rattle.parties.specs.Marks.{is_marked}
 use Rattle.parties.proofs.Marking.{marked_all}
 use Rattle.evaluator.proofs.missing.unmarked.Goals as goal

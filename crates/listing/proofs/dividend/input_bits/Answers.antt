@@ -1,4 +1,4 @@
-use Rattle.std.proofs.Common.{◌≡◌, ℕ, List, [], ◌∷◌, ◌++◌, length, take, drop, refl, ap, ◌∙◌, ap₂}
+use Rattle.std.proofs.Common.{ℕ, List, [], ◌∷◌, ◌++◌, length, take, drop, ap, ◌∙◌, ap₂}
 use borrow.Rule.Slice.PartMut.{put_mid}
 use Rattle.listing.specs.Dividend.{low_bits}
 use Rattle.listing.proofs.dividend.input_bits.Goals as goal

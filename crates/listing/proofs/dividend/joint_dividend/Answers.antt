@@ -1,4 +1,4 @@
-use Rattle.std.proofs.Common.{◌≡◌, ℕ, ◌≤◌, List, sym, ap, ◌∙◌, subst}
+use Rattle.std.proofs.Common.{ℕ, ◌≤◌, List, sym, ap, ◌∙◌, subst}
 use Rattle.circuit.specs.Gates.{wires_in}
 use Rattle.plain.specs.Plain.{Evaluated}
 use Rattle.listing.proofs.dividend.joint_dividend.Goals as goal

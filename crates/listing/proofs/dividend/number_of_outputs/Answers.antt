@@ -1,4 +1,4 @@
-use Rattle.std.proofs.Common.{◌≡◌, ℕ, ◌+◌, ◌*◌, ◌^◌, Bool, eqb, get_or, sym, refl, ap, ◌∙◌, arith}
+use Rattle.std.proofs.Common.{ℕ, Bool, eqb, get_or, refl, arith}
 use Rattle.plain.proofs.Numbers.{weight_more, number_more}
 use Rattle.listing.proofs.dividend.number_of_outputs.Goals as goal
 

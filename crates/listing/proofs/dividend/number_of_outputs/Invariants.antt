@@ -1,4 +1,4 @@
-use Rattle.std.proofs.Common.{◌≡◌, ℕ, ◌^◌, ◌<◌, eqb, get_or}
+use Rattle.std.proofs.Common.{◌≡◌, ◌^◌, ◌<◌, eqb, get_or}
 use Rattle.labels.specs.Numbers.{number}
 use Rattle.listing.proofs.dividend.number_of_outputs.Given as goal
 

@@ -1,10 +1,10 @@
-use Rattle.std.proofs.Common.{◌≡◌, ℕ, ◌<◌, ◌≤◌, Bool, true, false, eqb, List, ◌++◌, length, get_or, string_bytes, codes, sym, refl, ap, ◌∙◌, subst, ap₂, arith, rules}
+use Rattle.std.proofs.Common.{◌≡◌, ℕ, ◌<◌, Bool, true, false, eqb, List, ◌++◌, length, get_or, string_bytes, codes, sym, refl, ap, ◌∙◌, ap₂, arith, rules}
 use Rattle.plain.specs.Plain.{plain_refusal}
 use Rattle.listing.proofs.Inputs.{outputs_count}
 use Rattle.std.proofs.lemmas.Result.{IfOk-weaker}
 use Rattle.labels.specs.Numbers.{digit, number}
 use Rattle.circuit.specs.Parts.{parts_of}
-use Rattle.circuit.specs.Gates.{wires_in, output_of}
+use Rattle.circuit.specs.Gates.{wires_in}
 use Rattle.plain.proofs.Numbers.{number_same}
 use Rattle.listing.specs.Lines.{wire_lines, numbers, out_line}
 use Rattle.listing.specs.Dividend.{Settled, count_bits, tickets_line, dividend_line, wire_bit, out_bit, settle_lines, settle_text, text_unless}

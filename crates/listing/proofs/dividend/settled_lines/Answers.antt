@@ -1,4 +1,4 @@
-use Rattle.std.proofs.Common.{◌≡◌, ℕ, Bool, false, List, ◌++◌, length, get_or, string_bytes, ap, ◌∙◌}
+use Rattle.std.proofs.Common.{ℕ, false, List, ◌++◌, length, get_or, string_bytes, ap, ◌∙◌}
 use Rattle.listing.specs.Lines.{wire_lines, out_line}
 use Rattle.listing.specs.Dividend.{dividend_line}
 use Rattle.listing.proofs.Steps.{three}

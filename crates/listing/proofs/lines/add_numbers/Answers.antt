@@ -1,4 +1,4 @@
-use Rattle.std.proofs.Common.{◌≡◌, ℕ, List, ◌++◌, get_or, string_bytes, decimal, ap, ◌∙◌, add-one}
+use Rattle.std.proofs.Common.{ℕ, get_or, string_bytes, decimal, ◌∙◌, add-one}
 use Rattle.listing.specs.Lines.{numbers}
 use Rattle.listing.proofs.Steps.{piece_more}
 use Rattle.listing.proofs.lines.add_numbers.Goals as goal

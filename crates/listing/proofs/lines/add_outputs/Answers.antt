@@ -1,6 +1,4 @@
-use Rattle.std.proofs.Common.{◌≡◌, ℕ, List, ◌++◌, length, get_or, string_bytes, codes, ap, ◌∙◌, ap₂}
-use Rattle.std.proofs.lemmas.List.{append_assoc}
-use Rattle.listing.specs.Lines.{numbers, out_line}
+use Rattle.std.proofs.Common.{string_bytes, codes}
 use Rattle.listing.proofs.Steps.{three}
 use Rattle.listing.proofs.lines.add_outputs.Goals as goal
 

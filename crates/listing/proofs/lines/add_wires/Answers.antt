@@ -1,4 +1,4 @@
-use Rattle.std.proofs.Common.{◌≡◌, ℕ, Bool, false, List, ◌++◌, get_or, string_bytes, codes, decimal, ap, ◌∙◌, add-one}
+use Rattle.std.proofs.Common.{ℕ, Bool, false, ◌++◌, get_or, string_bytes, codes, decimal, ap, ◌∙◌, add-one}
 use Rattle.listing.specs.Lines.{wire_line, wire_lines}
 use Rattle.listing.proofs.Steps.{piece_more}
 use Rattle.listing.proofs.lines.add_wires.Goals as goal

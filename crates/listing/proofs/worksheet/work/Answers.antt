@@ -1,4 +1,4 @@
-use Rattle.std.proofs.Common.{◌≡◌, ℕ, ◌-◌, length, take, sym, refl, ap, ◌∙◌, arith, rules}
+use Rattle.std.proofs.Common.{◌≡◌, ◌-◌, length, take, sym, refl, ◌∙◌, arith, rules}
 use Rattle.circuit.specs.Lent.{parts_in}
 use Rattle.listing.proofs.Works.{work_refused, work_done, outputs_fit}
 use Rattle.listing.proofs.worksheet.work.Goals as goal

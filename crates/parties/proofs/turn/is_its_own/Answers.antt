@@ -1,4 +1,4 @@
-use Rattle.std.proofs.Common.{◌≡◌, eqb, sym, ap, ◌∙◌}
+use Rattle.std.proofs.Common.{eqb, sym, ap, ◌∙◌}
 use Rattle.circuit.specs.Lent.{parts_in}
 use Rattle.parties.proofs.Owned.{its_facts, its_all, its_sizes, its_wires}
 use Rattle.parties.proofs.turn.is_its_own.Goals as goal

@@ -1,6 +1,6 @@
-use Rattle.std.proofs.Common.{◌≡◌, ℕ, ◌+◌, ◌*◌, ◌/◌, ◌<◌, ◌≤◌, sym, ap, ◌∙◌, arith}
+use Rattle.std.proofs.Common.{◌≡◌, ℕ, ◌+◌, ◌*◌, ◌/◌, ◌<◌, ◌≤◌, ap, ◌∙◌, arith}
 use Rattle.circuit.specs.Gates.{form_of, wires_in}
-use Rattle.circuit.specs.Material.{gate_bits, gate_bytes}
+use Rattle.circuit.specs.Material.{gate_bytes}
 use Rattle.circuit.specs.Parts.{Parts, parts_of}
 use Rattle.circuit.specs.Lent.{parts_in}
 use Rattle.circuit.specs.declared.sizes.Sizes.{Sizes}

@@ -1,4 +1,4 @@
-use Rattle.std.proofs.Common.{ℕ, ◌+◌, ◌*◌, sym, arith}
+use Rattle.std.proofs.Common.{◌+◌, ◌*◌, sym, arith}
 use Rattle.sha256.proofs.Loops.{after_none, after_more}
 use Rattle.sha256.proofs.compression.turns.Goals as goal
 

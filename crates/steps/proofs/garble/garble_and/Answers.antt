@@ -1,4 +1,4 @@
-use Rattle.std.proofs.Common.{◌≡◌, ◌++◌, ap, ◌∙◌, subst, ap₂, rules}
+use Rattle.std.proofs.Common.{◌≡◌, ◌++◌, ap, ◌∙◌, subst, ap₂}
 use Rattle.gates.specs.Half.{garbled}
 use Rattle.wires.specs.Wires.{Grown}
 use Rattle.circuit.specs.Words.{word_at}

@@ -1,8 +1,8 @@
-use Rattle.std.proofs.Common.{◌≡◌, ℕ, ◌*◌, ◌/◌, ◌^◌, ◌<◌, ◌≤◌, List, length, sym, refl, ap, ◌∙◌, subst, ap₂, arith}
+use Rattle.std.proofs.Common.{◌≡◌, ℕ, ◌*◌, ◌/◌, ◌^◌, ◌≤◌, List, length, sym, refl, ap, ◌∙◌, ap₂, arith}
 use Rattle.std.proofs.lemmas.List.{nil_from_length}
 use Rattle.hashes.specs.Count.{counted}
 use Rattle.circuit.specs.Parts.{Parts}
-use Rattle.circuit.specs.Lent.{parts_in, GateAt, new_in, operands_in, Shaped}
+use Rattle.circuit.specs.Lent.{parts_in, GateAt, Shaped}
 use Rattle.circuit.specs.declared.gate.Gate.{Gate}
 use Rattle.circuit.proofs.Checks.{each_passes, gate_shape}
 use Rattle.circuit.proofs.GateParts.{gate_shaped, gate_makes, made_after}

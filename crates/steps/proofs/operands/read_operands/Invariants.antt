@@ -1,4 +1,4 @@
-use Rattle.std.proofs.Common.{◌≡◌, ℕ, ◌<◌, get_or}
+use Rattle.std.proofs.Common.{◌≡◌, ℕ, ◌<◌}
 use Rattle.circuit.specs.Words.{word_at}
 use Rattle.tables.specs.Table.{places}
 use Rattle.steps.proofs.operands.read_operands.Given as goal

@@ -1,4 +1,4 @@
-use Rattle.std.proofs.Common.{◌≡◌, ℕ, ◌+◌, ◌-◌, ◌*◌, ◌%◌, ◌^◌, ◌<◌, length, get_or, refl, ap, ◌∙◌, add-one, arith}
+use Rattle.std.proofs.Common.{◌≡◌, ℕ, ◌+◌, ◌*◌, ◌%◌, ◌^◌, ◌<◌, length, get_or, refl, ap, ◌∙◌, add-one, arith}
 use Rattle.std.proofs.lemmas.Nat.{one_shl}
 use Rattle.labels.specs.Kind.{times}
 use Rattle.labels.specs.Numbers.{bit}

@@ -1,6 +1,6 @@
 use Rattle.std.proofs.Common.{◌≡◌, ℕ, suc, ◌+◌, ◌-◌, ◌*◌, ◌/◌, ◌^◌, length, get_or, sym, refl, ap, ◌∙◌, zero-mul, arith}
 use Rattle.labels.specs.Kind.{times}
-use Rattle.tables.specs.Table.{places, sum, halved, masked, taken}
+use Rattle.tables.specs.Table.{places, sum, masked, taken}
 use Rattle.tables.specs.Material.{row_at}
 use Rattle.tables.proofs.Growing.{read_place}
 use Rattle.tables.proofs.Masks.{twice_next, level_below, level_within, next_row, rows_within, rows_fit, rows_counted, halved_more, taken_level, sum_onto}

@@ -1,4 +1,4 @@
-use Rattle.std.proofs.Common.{◌≡◌, ◌+◌, ◌-◌, ◌^◌, length, refl, ap, ◌∙◌, add-one, arith, pow_mono}
+use Rattle.std.proofs.Common.{◌≡◌, ◌+◌, ◌^◌, length, refl, ap, ◌∙◌, add-one, arith, pow_mono}
 use Rattle.tables.specs.Table.{places, colours}
 use Rattle.tables.proofs.Growing.{read_place}
 use Rattle.tables.proofs.Hot.{colours_more}

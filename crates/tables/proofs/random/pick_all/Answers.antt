@@ -1,4 +1,4 @@
-use Rattle.std.proofs.Common.{◌≡◌, ℕ, ◌+◌, ◌-◌, ◌^◌, length, refl, ap, ◌∙◌, ap₂, add-one, arith, pow_pos, pow_mono}
+use Rattle.std.proofs.Common.{◌≡◌, ℕ, ◌+◌, ◌^◌, length, refl, ap, ◌∙◌, ap₂, add-one, arith, pow_pos, pow_mono}
 use Rattle.tables.specs.Table.{places, based}
 use Rattle.tables.proofs.Givens.{numbered_more}
 use Rattle.tables.proofs.Growing.{read_place}

@@ -1,5 +1,5 @@
 use Rattle.std.proofs.Common.{ℕ, List, ◌++◌, ap₂}
-use Rattle.aes.specs.Bytes.{bytes4, bytes8}
+use Rattle.aes.specs.Bytes.{bytes4}
 use Rattle.aes.specs.Columns.{columns}
 use Rattle.aes.proofs.block.Block.words.Goals as goal
 

@@ -1,4 +1,4 @@
-use Rattle.std.proofs.Common.{◌≡◌, ℕ, ◌-◌, ◌<◌, ◌≤◌, ◌≢◌, [], length, get_or, replicate, refl, ◌∙◌, arith, length-set, get_or-set_other, get_or-set_same, below_more}
+use Rattle.std.proofs.Common.{◌≡◌, ◌-◌, ◌<◌, ◌≤◌, ◌≢◌, [], length, get_or, replicate, refl, arith, length-set, get_or-set_other, get_or-set_same, below_more}
 use lib.Bits.{bit_xor}
 use Rattle.aes.specs.Bytes.{bytes4}
 use Rattle.aes.specs.Columns.{bytes_of}

@@ -1,4 +1,3 @@
-use Rattle.std.proofs.Common.{◌≡◌}
 use Rattle.parties.proofs.Marking.{lowest_not}
 use Rattle.evaluator.proofs.record.Evaluator.state.Goals as goal
 

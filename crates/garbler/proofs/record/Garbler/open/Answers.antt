@@ -1,9 +1,6 @@
-use Rattle.std.proofs.Common.{◌≡◌, ℕ, ◌+◌, true, List, length, None, sym, ap, ◌∙◌, subst, ap₂, arith, rules}
+use Rattle.std.proofs.Common.{◌≡◌, ℕ, true, List, length, None, ap, ◌∙◌, subst, ap₂, arith, rules}
 use Rattle.hashes.specs.Draws.{offset}
-use Rattle.hashes.specs.Count.{counted}
-use Rattle.wires.specs.Wires.{Filled}
 use Rattle.circuit.specs.Parts.{parts_of}
-use Rattle.circuit.specs.Gates.{wires_in}
 use Rattle.circuit.specs.declared.sizes.Sizes.{Sizes}
 use Rattle.memory.specs.Start.{opened_wire}
 use Rattle.parties.specs.Side.{started}

@@ -20,8 +20,8 @@ pub struct RoundKeys {
 
 // The round constant i, counted from 1.
 fn round_constant(i: usize) -> u32
-    requires le_i { 1 ≤ i }
-    requires i_bound { i < 11 }
+    requires least { 1 ≤ i }
+    requires below { i < 11 }
     ensures { bytes4 result ≡ rcon i }
 {
     ROUND_CONSTANTS[i - 1]
@@ -46,8 +46,8 @@ fn sub_word(w: u32) -> u32
 
 // What word i adds to the word four before it; w is the word just before it.
 fn key_term(i: usize, w: u32) -> u32
-    requires le_i { 4 ≤ i }
-    requires i_bound { i < 44 }
+    requires least { 4 ≤ i }
+    requires below { i < 44 }
     ensures { bytes4 result ≡ term i (bytes4 w) }
 {
     if i % 4 == 0 {

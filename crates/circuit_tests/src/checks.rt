@@ -4,17 +4,19 @@ use circuit::check::check;
 use labels::long::Long;
 use labels::paper::Paper;
 use std::alloc::{AllocError, Global};
-use std::process::Abort;
 use std::test::Fail;
 
 // A circuit, and what is answered of it.
 #[derive(Clone, Copy)]
 struct Case<'a>(Words<'a>, Answer);
 
-fn all(rt: &impl Abort, heap: Global, cases: &[Case]) -> Result<(), Fail> {
+fn all(heap: Global, cases: &[Case]) -> Result<(), Fail> {
     for case in cases {
         let circuit = circuit_of(heap, case.0)?;
-        assert_eq!(rt; answer_to(circuit.as_slice()), case.1);
+        let answer = answer_to(circuit.as_slice());
+        if answer != case.1 {
+            return Err(Fail::new(format_args!("{answer:?} and not {:?}", case.1)));
+        }
     }
     Ok(())
 }
@@ -28,7 +30,6 @@ fn sizes(rt: HostRuntime) -> Result<(), Fail> {
         Answer::Refused(3)
     );
     all(
-        &rt,
         rt.alloc(),
         &[
             Case(Words(&[1, 0, 1, 0, 0], 0), Answer::Refused(3)),
@@ -54,7 +55,6 @@ fn sizes(rt: HostRuntime) -> Result<(), Fail> {
 #[test]
 fn gates(rt: HostRuntime) -> Result<(), Fail> {
     all(
-        &rt,
         rt.alloc(),
         &[
             Case(Words(&[1, 1, 1, 9, 256, 2064], 267), Answer::Passes),
@@ -109,7 +109,6 @@ fn gates(rt: HostRuntime) -> Result<(), Fail> {
 #[test]
 fn two_faults(rt: HostRuntime) -> Result<(), Fail> {
     all(
-        &rt,
         rt.alloc(),
         &[
             Case(Words(&[0, 0, 1, 0, 0], 0), Answer::Refused(2)),

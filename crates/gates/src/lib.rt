@@ -1,4 +1,4 @@
-// The XOR gate and the AND half gate, and what every gate needs: tweaks, typeof.b.L, labels in bytes, cleared scratch.
+// The XOR gate and the AND half gate, and what every gate needs: tweaks, b·L, labels in bytes, cleared scratch.
 #![tactic(auto)]
 
 pub mod clear;

@@ -1,7 +1,6 @@
 // The AES hash over long labels.
 ghost use Rattle.std.specs.Prelude.{◌≡◌, ◌^◌, ◌<◌};
 ghost use Rattle.hashes.specs.AesHash.{aes_hash, enciphered, tweaked};
-ghost use Rattle.std.proofs.Common.{rules, arith};
 
 use crate::hash::LabelHash;
 use aes::block::Block;
@@ -46,7 +45,7 @@ impl LabelHash<Long> for AesHash {
 
     ghost calls = { λ h. h.count };
 
-    ghost fits = { first_of (Prim.search rules, Prim.grind (arith, Self.row.coded.inj)) };
+    ghost fits = { λ h. h.fits };
 
     fn hash(&mut self, label: Long, tweak: u64) -> Long {
         self.count = self.count.saturating_add(1);

@@ -1,7 +1,6 @@
 // The paper hash, for work with a pencil.
 ghost use Rattle.std.specs.Prelude.{◌≡◌, ◌^◌, ◌<◌};
 ghost use Rattle.hashes.specs.PaperHash.{paper_hash};
-ghost use Rattle.std.proofs.Common.{rules, arith};
 
 use crate::hash::LabelHash;
 use labels::paper::Paper;
@@ -26,7 +25,7 @@ impl LabelHash<Paper> for PaperHash {
 
     ghost calls = { λ h. h.count };
 
-    ghost fits = { first_of (Prim.search rules, Prim.grind (arith, Self.row.coded.inj)) };
+    ghost fits = { λ h. h.fits };
 
     fn hash(&mut self, label: Paper, tweak: u64) -> Paper {
         self.count = self.count.saturating_add(1);

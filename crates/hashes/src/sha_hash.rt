@@ -4,7 +4,6 @@ ghost use Rattle.labels.specs.Longs.{long};
 ghost use Rattle.labels.specs.Words.{eight};
 ghost use Rattle.hashes.specs.ShaHash.{sha_hash};
 ghost use Rattle.sha256.specs.Digest.{digest};
-ghost use Rattle.std.proofs.Common.{rules, arith};
 
 use crate::hash::LabelHash;
 use labels::kind::Label;
@@ -76,7 +75,7 @@ impl LabelHash<Long> for ShaHash {
 
     ghost calls = { λ h. h.count };
 
-    ghost fits = { first_of (Prim.search rules, Prim.grind (arith, Self.row.coded.inj)) };
+    ghost fits = { λ h. h.fits };
 
     fn hash(&mut self, label: Long, tweak: u64) -> Long {
         self.count = self.count.saturating_add(1);

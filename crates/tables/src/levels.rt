@@ -117,7 +117,7 @@ pub fn garble_levels<L: Label, H: LabelHash<L>>(
     }
 }
 
-// The evaluator's part: S(b,j) ⊕ M(b,j) ⊕ typeof.b.row.
+// The evaluator's part: S(b,j) ⊕ M(b,j) ⊕ b·row.
 fn unmasked<L: Label>(b: bool, part: L, row: L) -> L
     ensures { result ≡ L.kind.xor part (scaled L.kind b row) }
 {

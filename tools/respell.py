@@ -3,7 +3,8 @@
 
 usage: python3 tools/respell.py          in the repository, after /opt/rattle/port/port.py
 
-A name of ours with a dash, as plain-bit, becomes plain_bit; a type's, as Whole-bytes, becomes WholeBytes.
+A name of ours with a dash, as plain-bit, becomes plain_bit; a type's, as Whole-bytes, becomes WholeBytes,
+and a module's that a file brings under another name, as xor-gate, becomes XorGate.
 The old word getD in a name is get_or. A lemma that would get the name of a word of the library, as bit-xor, becomes bit_xor_lem.
 Names of the toolchain's library, and the goals and steps that the toolchain names, keep their dashes.
 Functions of src/, strings, inputs and outputs are not touched. It says which names fall together, and then writes nothing.
@@ -19,6 +20,7 @@ HEAD = re.compile(r"^\s*(?:\|\s*)?" + WORDS + r"([^\s(){},]+)(?:\s+[({].*?)?\s*:
 BLOCK = re.compile(r"^\s*(?:pub\s+)?(?:data|record|ruleset)\s+([^\s(){},]+)")
 # what the toolchain asks for, under its own name
 GOAL = re.compile(r"^\s*goal\.")
+MODULE = re.compile(r"^use \S+ as (\S+)\s*$", re.M)
 IMPORT = re.compile(r"\buse\s+(\S+?)\.\{([^}]*)\}", re.S)
 
 
@@ -54,6 +56,14 @@ def declared(path, text):
             yield m.group(1)
 
 
+def renamed(text):
+    """The names that a text gives to what it imports."""
+    for _, names in IMPORT.findall(text):
+        for n in names.split(","):
+            if " as " in n:
+                yield n.split(" as ")[-1].strip()
+
+
 def imported(text, ours):
     """What a text takes from the toolchain's library."""
     for where, names in IMPORT.findall(text):
@@ -68,9 +78,10 @@ def main():
     ours = set(os.listdir("crates"))
     read = {p: open(p, encoding="utf-8").read() for p in texts()}
     kit = {n for t in read.values() for n in imported(t, ours)}
-    names = {n for p, t in read.items() for n in declared(p, t)}
+    names = {n for p, t in read.items() for n in declared(p, t)} | {n for t in read.values() for n in renamed(t)}
     turned = {n: spelled(n) for n in names if (DASHED.match(n) or "getD" in n) and n not in kit}
     turned = {n: to + "_lem" if to in kit else to for n, to in turned.items()}
+    turned |= {n: "".join(p.capitalize() for p in n.split("-")) for t in read.values() for n in MODULE.findall(t) if DASHED.match(n)}
     bad = False
     for n, to in sorted(turned.items()):
         same = [m for m, u in turned.items() if u == to and m != n] + [m for m in (to,) if m in names]

@@ -1,7 +1,7 @@
 // The garbler's opening.
 ghost use Rattle.std.specs.Prelude.{◌≡◌, ◌+◌, true, false, length, replicate, Some, None, MatchResult, ◌==◌};
 ghost use Rattle.hashes.specs.Count.{counted};
-ghost use Rattle.hashes.specs.Draws.{offset as drawn-offset};
+ghost use Rattle.hashes.specs.Draws.{offset as drawn_offset};
 ghost use Rattle.circuit.specs.Parts.{parts_of};
 ghost use Rattle.circuit.specs.Refusals.{number_of};
 ghost use Rattle.parties.specs.Refusing.{seed_refusal, open_refusal};
@@ -41,7 +41,7 @@ fn may_open<L: Label>(
 
 // The offset, which must have its colour.
 fn draw_offset<L: Label, H: LabelHash<L>>(h: &mut H, seed: L) -> Result<L, Refusal>
-    ensures answer { MatchResult result (λ d. (d ≡ drawn-offset (H.means h.old) seed L.kind) × (L.kind.colour (drawn-offset (H.means h.old) seed L.kind) ≡ true)) (λ why. (why ≡ Refusal.Colourless) × (L.kind.colour (drawn-offset (H.means h.old) seed L.kind) ≡ false)) }
+    ensures answer { MatchResult result (λ d. (d ≡ drawn_offset (H.means h.old) seed L.kind) × (L.kind.colour (drawn_offset (H.means h.old) seed L.kind) ≡ true)) (λ why. (why ≡ Refusal.Colourless) × (L.kind.colour (drawn_offset (H.means h.old) seed L.kind) ≡ false)) }
     ensures kept { H.means h.new ≡ H.means h.old }
     ensures count { H.calls h.new ≡ counted (H.calls h.old) 1 }
 {

@@ -3,14 +3,14 @@ use Rattle.std.proofs.Common.{◌≡◌, ℕ, Bool, true, false, ◌&&◌, sym, 
 use Rattle.labels.specs.Kind.{Kind, times, differs}
 use Rattle.labels.proofs.Group.{bits, cancel}
 use Rattle.gates.specs.Tweak.{tweak}
-use Rattle.gates.specs.Xor as xor-gate
+use Rattle.gates.specs.Xor as XorGate
 use Rattle.gates.specs.Half.{Sound, Meets, joined, garbled}
 
 module _ {L : Type 0} (K : Kind L) where
-  pub xor_sound : xor-gate.Sound K
+  pub xor_sound : XorGate.Sound K
   xor_sound Δ A B x y = simp bits
 
-  pub xor_meets : (a b r : L) → r ≡ K.xor a b → xor-gate.Meets K a b r
+  pub xor_meets : (a b r : L) → r ≡ K.xor a b → XorGate.Meets K a b r
   xor_meets a b r e Δ A B x y ea eb = e ∙ ap₂ K.xor ea eb ∙ xor_sound Δ A B x y
 
   -- the gate at the hashes f₀, f₁ of A's two labels and g₀, g₁ of B's, and the colours p, r of the zero labels

@@ -1,6 +1,6 @@
 // The joint dividend of two ticket counts, in the clear.
 ghost use Rattle.std.specs.Prelude.{◌≡◌, ℕ, ◌+◌, ◌*◌, ◌^◌, ◌<◌, ◌≤◌, false, ◌++◌, length, IfOk, Some, string_bytes, MatchResult, ◌==◌, nat_eq, slice_index, slice_index_or};
-ghost use Rattle.labels.specs.Numbers.{digit, number as number-from};
+ghost use Rattle.labels.specs.Numbers.{digit, number as number_from};
 ghost use Rattle.plain.specs.Plain.{plain_refusal};
 ghost use Rattle.listing.specs.Dividend.{low_bits, count_bits, Settled, tickets_line, dividend_line, settle_text};
 ghost use Rattle.listing.specs.Lines.{wire_lines, out_line};
@@ -42,7 +42,7 @@ fn weighed(bit: u8, weight: u32) -> u32
 // The number whose bits the outputs are, the first lowest.
 fn number_of_outputs(outputs: &[u8]) -> u32
     requires { length outputs.now ≡ 16 }
-    ensures { result ≡ number-from 16 (λ o. nat_eq (slice_index outputs.now o) 1) }
+    ensures { result ≡ number_from 16 (λ o. nat_eq (slice_index outputs.now o) 1) }
 {
     let mut sum = 0;
     let mut weight = 1;

@@ -1,6 +1,6 @@
 // Plain evaluation: every wire's bit, in the clear.
 ghost use Rattle.std.specs.Prelude.{◌≡◌, ℕ, ◌+◌, ◌*◌, ◌/◌, ◌^◌, ◌<◌, ◌≤◌, true, false, length, get_or, Some, None, MatchResult, slice_index, slice_index_or};
-ghost use Rattle.labels.specs.Numbers.{bit as bit_of, digit, number as number-from};
+ghost use Rattle.labels.specs.Numbers.{bit as bit_of, digit, number as number_from};
 ghost use Rattle.circuit.specs.Words.{word_at, all_below};
 ghost use Rattle.circuit.specs.Gates.{wires_in};
 ghost use Rattle.circuit.specs.Check.{gates_refusal};
@@ -86,7 +86,7 @@ fn row_number(wires: &Wires<bool>, operands: &[u8]) -> usize
     requires few { length operands.now / 2 ≤ 8 }
     requires order { all_below (word_at operands.now) (length operands.now / 2) wires.now.made ≡ true }
     requires room { wires.now.made ≤ length wires.now.values.now }
-    ensures number { result ≡ number-from (length operands.now / 2) (λ i. get_or wires.now.values.now (word_at operands.now i) false) }
+    ensures number { result ≡ number_from (length operands.now / 2) (λ i. get_or wires.now.values.now (word_at operands.now i) false) }
     ensures small { result < 2 ^ (length operands.now / 2) }
 {
     let mut row = 0;

@@ -16,7 +16,7 @@ use Rattle.circuit.specs.declared.gate.Gate.TheVariants.{Xor, And, Table}
 use Rattle.circuit.proofs.Checks.{each_passes, gate_in_order}
 use Rattle.circuit.proofs.GateParts.{table_high, gate_operand, gate_order, made_after, made_within}
 use Rattle.gates.specs.Half.{garbled, joined}
-use Rattle.gates.specs.Bytes.{part as bytes-at}
+use Rattle.gates.specs.Bytes.{part as bytes_at}
 use Rattle.gates.specs.Size.{bytes_of}
 use Rattle.gates.proofs.Sizes.{whole_bytes}
 use Rattle.tables.specs.Gate.{material_for, zeros_for, evaluated, garbler_calls, evaluator_calls}
@@ -121,11 +121,11 @@ module _ (c : Parts) (g : ℕ) where
           ap (λ (r : L × L × L). K.bytes r.0 ++ K.bytes r.1) (triple Δ) ∙ sym (at_and (form_of c g) _ _ _ at.0)
 
       pub and_labels : (bytes : List ℕ) (j : ℕ) → j < 1
-          → joined K F k (K.from (bytes-at 0 K.width bytes)) (K.from (bytes-at K.width K.width bytes)) (v (word_at ops.now 0)) (v (word_at ops.now 1)) ≡ places K (new_labels c g K v F bytes) j
+          → joined K F k (K.from (bytes_at 0 K.width bytes)) (K.from (bytes_at K.width K.width bytes)) (v (word_at ops.now 0)) (v (word_at ops.now 1)) ≡ places K (new_labels c g K v F bytes) j
       unfolding new_labels
       and_labels bytes j l =
           let z : j ≡ 0 = omega arith in
-          (λ i. joined K F (ek i) (K.from (bytes-at 0 K.width bytes)) (K.from (bytes-at K.width K.width bytes)) (left i) (right i))
+          (λ i. joined K F (ek i) (K.from (bytes_at 0 K.width bytes)) (K.from (bytes_at K.width K.width bytes)) (left i) (right i))
           ∙ sym (ap₂ (λ (xs : List L) (i : ℕ). places K xs i) (at_and (form_of c g) _ _ _ at.0) z)
 
     -- a table as gate k, with p outputs

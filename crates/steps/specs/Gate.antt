@@ -5,7 +5,7 @@ use Rattle.circuit.specs.Words.{part}
 use Rattle.circuit.specs.Parts.{Parts}
 use Rattle.circuit.specs.Forms.{fan_in, fan_out, reads}
 use Rattle.circuit.specs.Gates.{form_of, operand_of, rows_from}
-use Rattle.gates.specs.Bytes.{part as bytes-at}
+use Rattle.gates.specs.Bytes.{part as bytes_at}
 use Rattle.gates.specs.Half.{garbled, joined}
 use Rattle.tables.specs.Gate.{material_for, zeros_for, evaluated, garbler_calls, evaluator_calls}
 use Rattle.tables.specs.Material.{listed}
@@ -59,5 +59,5 @@ module _ (c : Parts) (g : ℕ) where
       new_labels bytes =
           by_form (form_of c g)
           (K.xor (v (operand_of c g 0)) (v (operand_of c g 1)) ∷ [])
-          (joined K F g (K.from (bytes-at 0 K.width bytes)) (K.from (bytes-at K.width K.width bytes)) (v (operand_of c g 0)) (v (operand_of c g 1)) ∷ [])
+          (joined K F g (K.from (bytes_at 0 K.width bytes)) (K.from (bytes_at K.width K.width bytes)) (v (operand_of c g 0)) (v (operand_of c g 1)) ∷ [])
           (evaluated K F g (fan_in (form_of c g)) (fan_out (form_of c g)) bytes (places K operand_labels))

@@ -8,7 +8,7 @@ use Rattle.tables.specs.Table.{based, colours, hot, hot_row, mask_row, turned}
 use Rattle.gates.specs.Size.{labels_of}
 use Rattle.tables.specs.Material.{packed, unpacked, row_bytes, mask_rows}
 use Rattle.tables.specs.Gate as gates
-use Rattle.tables.specs.All as all-gates
+use Rattle.tables.specs.All as AllGates
 use Rattle.tables.proofs.Masks.{rows_within}
 use Rattle.tables.proofs.Packing.{listed_ext, packed_ext, unpacked_bit}
 use Rattle.tables.proofs.Placing.{part_front, drop_end}
@@ -62,7 +62,7 @@ module _ {L : Type 0} (K : Kind L) where
   table_sound F gate n m s Δ A row a ln hΔ =
       gate_meets K F gate n m (gates.material K F gate n m s Δ A row) (λ k. K.xor (A k) (times K (a k) Δ)) _ ln refl s Δ A row a hΔ (λ k l. refl) refl
 
-  pub sound : all-gates.Sound K
+  pub sound : AllGates.Sound K
   sound = record {
     xor = halves.xor_sound K;
     half = halves.sound K;

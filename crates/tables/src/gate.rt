@@ -7,7 +7,7 @@ ghost use Rattle.tables.specs.Level.{Holds};
 ghost use Rattle.gates.specs.Size.{labels_of, bytes_of};
 ghost use Rattle.tables.specs.Material.{row_bytes, row_word};
 ghost use Rattle.tables.specs.Ran.{Ran};
-ghost use Rattle.tables.specs.Table.{places, based, colours as of-colours, hot, hot_row, mask_row, turned, made};
+ghost use Rattle.tables.specs.Table.{places, based, colours as of_colours, hot, hot_row, mask_row, turned, made};
 
 use crate::levels::{evaluate_levels, garble_levels};
 use crate::number::colours;
@@ -39,7 +39,7 @@ fn garble_labels<L: Label, H: LabelHash<L>>(
     ensures news { Holds L.kind m (made L.kind (H.means h.old) gate m (length zeros.now) s offset (places L.kind zeros.now) (row_word rows.now)) new.new }
     ensures hots { (k : ℕ) → k < length zeros.now - 1 → row_bytes L.kind k material.new ≡ L.kind.bytes (hot_row L.kind (H.means h.old) gate offset (λ k. based L.kind offset (places L.kind zeros.now k)) (suc k)) }
     ensures masks { (d : ℕ) → d < length zeros.now → (j : ℕ) → j < m → row_bytes L.kind (length zeros.now - 1 + (d * m + j)) material.new ≡ L.kind.bytes (mask_row L.kind (H.means h.old) gate m (length zeros.now) offset (λ k. based L.kind offset (places L.kind zeros.now k)) (hot L.kind (H.means h.old) gate offset (λ k. based L.kind offset (places L.kind zeros.now k)) (length zeros.now)) d j) }
-    ensures turns { (i : ℕ) → i < 2 ^ length zeros.now → slice_index fs.new i ≡ turned L.kind (H.means h.old) gate m (length zeros.now) s offset (λ k. based L.kind offset (places L.kind zeros.now k)) (row_word rows.now) (of-colours L.kind (length zeros.now) (places L.kind zeros.now)) i }
+    ensures turns { (i : ℕ) → i < 2 ^ length zeros.now → slice_index fs.new i ≡ turned L.kind (H.means h.old) gate m (length zeros.now) s offset (λ k. based L.kind offset (places L.kind zeros.now k)) (row_word rows.now) (of_colours L.kind (length zeros.now) (places L.kind zeros.now)) i }
     ensures ran { Ran (H.means h.old) (H.means h.new) (H.calls h.old) (H.calls h.new) (3 * 2 ^ length zeros.now - 4 + 2 * (length zeros.now * m)) }
 {
     let n = zeros.len();

@@ -4,7 +4,7 @@ ghost use Rattle.labels.specs.Kind.{times as scaled};
 ghost use Rattle.tables.specs.Level.{Holds, Numbered};
 ghost use Rattle.tables.specs.Material.{row_bytes, row_at};
 ghost use Rattle.tables.specs.Ran.{Ran};
-ghost use Rattle.tables.specs.Table.{places, based, masked, level, sum, given as share-of, mask_row, taken};
+ghost use Rattle.tables.specs.Table.{places, based, masked, level, sum, given as share_of, mask_row, taken};
 
 use crate::number::{base, level_after, weight};
 use crate::random::pick;
@@ -96,7 +96,7 @@ pub fn garble_levels<L: Label, H: LabelHash<L>>(
     requires small { (m ≤ 16) × ((length new.old ≡ m) × (length zeros.now ≤ 8)) }
     requires long { (w ≡ 2 ^ length zeros.now) × ((w ≤ length v.old) × (((first + length zeros.now * m) * L.kind.width ≤ length material.old) × (w + w ≤ length nums.now))) }
     requires there { Numbered L.kind (H.means h.old) gate m (length zeros.now) offset (λ k. based L.kind offset (places L.kind zeros.now k)) nums.now }
-    ensures news { Holds L.kind m (λ j. L.kind.xor (places L.kind new.old j) (sum L.kind (length zeros.now) (λ d. share-of L.kind (H.means h.old) gate m (length zeros.now) offset (λ k. based L.kind offset (places L.kind zeros.now k)) (places L.kind v.old) d false j))) new.new }
+    ensures news { Holds L.kind m (λ j. L.kind.xor (places L.kind new.old j) (sum L.kind (length zeros.now) (λ d. share_of L.kind (H.means h.old) gate m (length zeros.now) offset (λ k. based L.kind offset (places L.kind zeros.now k)) (places L.kind v.old) d false j))) new.new }
     ensures rows { (d : ℕ) → d < length zeros.now → (j : ℕ) → j < m → row_bytes L.kind (first + (d * m + j)) material.new ≡ L.kind.bytes (mask_row L.kind (H.means h.old) gate m (length zeros.now) offset (λ k. based L.kind offset (places L.kind zeros.now k)) (places L.kind v.old) d j) }
     ensures before { (i : ℕ) → i < first → row_bytes L.kind i material.new ≡ row_bytes L.kind i material.old }
     ensures ran { Ran (H.means h.old) (H.means h.new) (H.calls h.old) (H.calls h.new) (2 * (length zeros.now * m)) }

@@ -1,7 +1,7 @@
 // Numbers from the colours of labels, and labels of colour 0.
 ghost use Rattle.std.specs.Prelude.{◌≡◌, ℕ, ◌+◌, ◌*◌, ◌<◌, ◌≤◌, length, if◌then◌else◌};
 ghost use Rattle.labels.specs.Numbers.{bit};
-ghost use Rattle.tables.specs.Table.{places, based, colours as of-colours};
+ghost use Rattle.tables.specs.Table.{places, based, colours as of_colours};
 
 use gates::scale::times;
 use labels::kind::Label;
@@ -40,7 +40,7 @@ pub fn base<L: Label>(offset: L, zero: L) -> L
 // The number whose bit k is the colour of label k.
 pub fn colours<L: Label>(labels: &[L]) -> usize
     requires { length labels.now ≤ 8 }
-    ensures { result ≡ of-colours L.kind (length labels.now) (places L.kind labels.now) }
+    ensures { result ≡ of_colours L.kind (length labels.now) (places L.kind labels.now) }
 {
     let mut number = 0;
     let mut w = 1;

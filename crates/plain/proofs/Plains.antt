@@ -81,7 +81,7 @@ module _ (c : Parts) (given : ℕ → Bool) where
       ∙ sym (wire_fresh (made_before c) (plain_rule c) given g j) ∙ ap (λ (n : ℕ). U (n + j)) (sym em))
 
   -- the bits of the definition are those of a plain run
-  pub bits_run : (known-form : (g : ℕ) → g < c.sizes.gates → known (form_of c g) ≡ true) → (order : (g : ℕ) → g < c.sizes.gates → in_order c g ≡ true)
+  pub bits_run : (known_form : (g : ℕ) → g < c.sizes.gates → known (form_of c g) ≡ true) → (order : (g : ℕ) → g < c.sizes.gates → in_order c g ≡ true)
       → (g j : ℕ) → g < c.sizes.gates → j < makes (form_of c g)
       → plain_bit c given (made_before c g + j) ≡ gate_bit c g (λ i. plain_bit c given (operand_of c g i)) j
   bits_run forms order g j h l =

@@ -31,12 +31,12 @@ module _ {L : Type 0} (K : Kind L) where
       let len = length-set v (w + i) x in
       let u = set (set v (w + i) x) i y in
       let at_i = get_or-set_same (set v (w + i) x) i y K.zero (omega arith) in
-      let at-wi : places K u (w + i) ≡ x = get_or-set_other (set v (w + i) x) i (w + i) y K.zero (omega arith) ∙ get_or-set_same v (w + i) x K.zero (omega arith) in
+      let at_wi : places K u (w + i) ≡ x = get_or-set_other (set v (w + i) x) i (w + i) y K.zero (omega arith) ∙ get_or-set_same v (w + i) x K.zero (omega arith) in
       let other : (k : ℕ) → k ≢ i → k ≢ (w + i) → places K u k ≡ places K v k =
       λ k p q. get_or-set_other (set v (w + i) x) i k y K.zero p ∙ get_or-set_other v (w + i) k x K.zero q in
       record {
         lower = λ k b g. elim (cases_eq k i) [ inl e ↦ ap (places K u) e ∙ at_i ∙ ey ∙ ap (λ j. K.xor (c j) (V j)) (sym e) | inr e ↦ other k e (omega arith) ∙ s.lower k b (omega arith) ];
-        upper = λ k b g. elim (cases_eq k i) [ inl e ↦ ap (λ j. places K u (w + j)) e ∙ at-wi ∙ ex ∙ ap c (sym e) | inr e ↦ other (w + k) (omega arith) (omega arith) ∙ s.upper k b (omega arith) ];
+        upper = λ k b g. elim (cases_eq k i) [ inl e ↦ ap (λ j. places K u (w + j)) e ∙ at_wi ∙ ex ∙ ap c (sym e) | inr e ↦ other (w + k) (omega arith) (omega arith) ∙ s.upper k b (omega arith) ];
         before = λ k g. other k (omega arith) (omega arith) ∙ s.before k g;
         midst = λ k g r. other k (omega arith) (omega arith) ∙ s.midst k (omega arith) r;
       }

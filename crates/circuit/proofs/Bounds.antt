@@ -1,4 +1,4 @@
--- What `all-below` tells of each place. Assumes nothing.
+-- What `all_below` tells of each place. Assumes nothing.
 use Rattle.std.proofs.Common.{◌≡◌, ℕ, zero, suc, ◌<◌, ◌≤◌, true, false, ltb, Decides, refl, inl, inr, arith}
 use Rattle.std.proofs.lemmas.Bool.Decides.{Decides-ltb, Decides-below_and}
 use Rattle.std.proofs.lemmas.Bool.{cases_Bool}

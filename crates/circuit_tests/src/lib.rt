@@ -1,6 +1,6 @@
+// Circuits at the edges of the rules: accepted just inside, refused just outside.
 #![tactic(auto)]
 
-// Circuits at the edges of the rules: accepted just inside, refused just outside.
 #[cfg(test)]
 mod built;
 #[cfg(test)]

@@ -1,6 +1,6 @@
+// Published examples and values of independent implementations, run as tests.
 #![tactic(auto)]
 
-// Published examples and values of independent implementations, run as tests.
 #[cfg(test)]
 mod aes_cipher;
 #[cfg(test)]

@@ -2,14 +2,15 @@
 # Proves and builds a program of the repository, then runs it in its crate's folder: tools/run.sh NAME WORD..
 # What the check says goes to target/build.log; it is shown only where there is nothing to run.
 cd "$(dirname "$0")/.." || exit 1
-name=$1
-shift
 mkdir -p target
-rt run "$name" -- "$@" 2> target/build.log
+said=$PWD/target/build.log
+cd "crates/$1" || exit 1
+shift
+rt run -- "$@" 2> "$said"
 status=$?
-if grep -q '^rt: running ' target/build.log; then
-    sed '1,/^rt: running /d' target/build.log >&2
+if grep -q '^rt: running ' "$said"; then
+    sed '1,/^rt: running /d' "$said" >&2
 else
-    cat target/build.log >&2
+    cat "$said" >&2
 fi
 exit "$status"

@@ -1,7 +1,7 @@
-pub mod Tests
 pub mod Entries
 pub mod Words
 pub mod Halves
-pub mod FixedKeys
+pub mod WordLists
 pub mod Expansion
-pub mod Turns
+pub mod Mixed
+pub mod RoundSteps

@@ -1,11 +1,11 @@
 -- The bytes of words, and of sums of words. Assumes nothing.
-use Rattle.std.proofs.Common.{◌≡◌, ℕ, ◌+◌, ◌*◌, ◌/◌, ◌%◌, ◌^◌, ◌<◌, List, [], ◌∷◌, ◌++◌, ap, ◌∙◌, arith}
-use lib.Bits.{bit_xor, bit_or, xor_shr, xor_mod, or_shifted}
-use Rattle.std.proofs.lemmas.Nat.{div-mul-add, mod-mul-add}
+use Rattle.std.proofs.Common.{◌≡◌, ℕ, ◌*◌, ◌/◌, ◌%◌, ◌^◌, ◌<◌, List, [], ◌∷◌, ◌++◌, length, get_or, sym, refl, ap, ◌∙◌, append_assoc, arith}
+use lib.Bits.{bit_xor, xor_shr, xor_mod}
+use Rattle.std.proofs.lemmas.Nat.{le_bytes_4}
+use Rattle.std.specs.Int.{w32, to_le_bytes, from_le_bytes}
 use Rattle.aes.specs.Bytes.{byte, bytes4, xors}
 use Rattle.aes.specs.Columns.{columns}
-use Rattle.aes.specs.Rounds.{mixed, sum4}
-use Rattle.aes.specs.Shares.{share0, share1, share2, share3}
+use Rattle.std.proofs.lemmas.List.FromFn.{fill_by_all}
 
 pub byte_xor : (i a b : ℕ) → byte i (bit_xor a b) ≡ bit_xor (byte i a) (byte i b)
 unfolding byte
@@ -19,31 +19,28 @@ pub by_columns : (a b c d : ℕ) {A B C D : List ℕ} → bytes4 a ≡ A → byt
 unfolding columns
 by_columns a b c d p q r s = cc
 
--- the four shares make the mixed column
-pub mixed_word : (a b c d p q r s : ℕ) → bytes4 a ≡ share0 p → bytes4 b ≡ share1 q → bytes4 c ≡ share2 r → bytes4 d ≡ share3 s
-    → bytes4 (bit_xor (bit_xor (bit_xor a b) c) d) ≡ mixed p q r s
-unfolding share0 share1 share2 share3 mixed sum4 xors
-mixed_word a b c d p q r s h i j k = simp (bytes4_xor, h, i, j, k)
-
--- one more byte, below the word n
-push : (n a : ℕ) → n < 2 ^ 24 → a < 256 → bit_or (n * 256 % 2 ^ 32) a ≡ n * 256 + a
-push n a h k = let e : n * 256 % 2 ^ 32 ≡ n * 256 = omega arith in rw e (or_shifted n 8 a k)
-
-pub packed : (a b c d : ℕ) → a < 256 → b < 256 → c < 256 → d < 256
-    → bytes4 (bit_or (bit_or (bit_or (d * 256 % 2 ^ 32) c * 256 % 2 ^ 32) b * 256 % 2 ^ 32) a) ≡ a ∷ b ∷ c ∷ d ∷ []
+-- std's bytes of a word, lowest first
+pub low_first : (n : ℕ) → to_le_bytes w32 n ≡ bytes4 n
 unfolding bytes4 byte
-packed a b c d ha hb hc hd =
-    let p : d < 2 ^ 24 = omega arith in
-    let q : d * 256 + c < 2 ^ 24 = omega arith in
-    let r : (d * 256 + c) * 256 + b < 2 ^ 24 = omega arith in
-    let n : ℕ = ((d * 256 + c) * 256 + b) * 256 + a in
-    let e0 : n / 1 % 256 ≡ a = omega (arith, mod-mul-add ((d * 256 + c) * 256 + b) 256 a ha) in
-    let e1 : n / 256 % 256 ≡ b = rw (div-mul-add ((d * 256 + c) * 256 + b) 256 a ha) (mod-mul-add (d * 256 + c) 256 b hb) in
-    let f2 : n / 65536 ≡ d * 256 + c = omega arith in
-    let e2 : n / 65536 % 256 ≡ c = rw f2 (mod-mul-add d 256 c hc) in
-    let low : c * 65536 + b * 256 + a < 16777216 = omega arith in
-    let g : n ≡ d * 16777216 + (c * 65536 + b * 256 + a) = omega arith in
-    let f3 : n / 16777216 ≡ d = ap (λ (m : ℕ). m / 16777216) g ∙ div-mul-add d 16777216 (c * 65536 + b * 256 + a) low in
-    let f4 : d % 256 ≡ d = omega arith in
-    let e3 : n / 16777216 % 256 ≡ d = ap (λ (m : ℕ). m % 256) f3 ∙ f4 in
-    rw (push d c p hc, push (d * 256 + c) b q hb, push ((d * 256 + c) * 256 + b) a r ha, e0, e1, e2, e3)
+low_first n =
+    let e : n % 256 ≡ n / 1 % 256 = omega arith in
+    ap (λ (b : ℕ). b ∷ n / 256 % 256 ∷ n / 65536 % 256 ∷ n / 16777216 % 256 ∷ []) e
+
+-- a column read from its four bytes has them
+pub read_word : (bs : List ℕ) (n : ℕ) → length bs ≡ 4 → ((i : ℕ) → get_or bs i 0 < 256) → n ≡ from_le_bytes w32 bs → bytes4 n ≡ bs
+read_word bs n l h e = sym (low_first n) ∙ le_bytes_4 bs n l h e
+
+-- four columns are two halves of eight bytes
+pub columns_halves : (a b c d : ℕ) → columns a b c d ≡ (bytes4 a ++ bytes4 b) ++ (bytes4 c ++ bytes4 d)
+unfolding columns
+columns_halves a b c d = sym (append_assoc (bytes4 a) (bytes4 b) (bytes4 c ++ bytes4 d))
+
+-- sixteen bytes are four columns of four
+pub sixteen : (bs : List ℕ) (a b c d : ℕ) → length bs ≡ 16
+    → bytes4 a ≡ get_or bs 0 0 ∷ get_or bs 1 0 ∷ get_or bs 2 0 ∷ get_or bs 3 0 ∷ []
+    → bytes4 b ≡ get_or bs 4 0 ∷ get_or bs 5 0 ∷ get_or bs 6 0 ∷ get_or bs 7 0 ∷ []
+    → bytes4 c ≡ get_or bs 8 0 ∷ get_or bs 9 0 ∷ get_or bs 10 0 ∷ get_or bs 11 0 ∷ []
+    → bytes4 d ≡ get_or bs 12 0 ∷ get_or bs 13 0 ∷ get_or bs 14 0 ∷ get_or bs 15 0 ∷ []
+    → columns a b c d ≡ bs
+sixteen bs a b c d n p q r s =
+    by_columns a b c d p q r s ∙ sym (fill_by_all (λ (k : ℕ). get_or bs k 0) bs 16 0 n (λ k h. refl))

@@ -1,10 +1,10 @@
 // A block of 16 bytes as four columns.
-ghost use Rattle.std.specs.Prelude.{◌≡◌, [], ◌∷◌, ◌++◌};
-ghost use Rattle.aes.specs.Bytes.{byte, bytes4, bytes8};
+ghost use Rattle.std.specs.Prelude.{◌≡◌, ◌++◌};
+ghost use Rattle.aes.specs.Bytes.{bytes4, bytes8};
 ghost use Rattle.aes.specs.Columns.{bytes_of};
 
-// Each word is a column, its first byte lowest.
-#[derive(Clone, Copy)]
+// Each word is a column, its first byte lowest. By name: each column of a round takes the others in another order.
+#[derive(Clone, Copy, PartialEq, Eq, Debug)]
 pub struct Block {
     pub a: u32,
     pub b: u32,
@@ -13,82 +13,63 @@ pub struct Block {
 }
 
 // The byte in each row of a column.
-pub(crate) fn row0(w: u32) -> u8
-    ensures { result ≡ byte 0 w }
+#[tactic(auto, using(crate::proofs::Words::low_first))]
+pub(crate) fn rows(column: u32) -> [u8; 4]
+    ensures { result ≡ bytes4 column }
 {
-    (w & 255) as u8
-}
-
-pub(crate) fn row1(w: u32) -> u8
-    ensures { result ≡ byte 1 w }
-{
-    ((w >> 8) & 255) as u8
-}
-
-pub(crate) fn row2(w: u32) -> u8
-    ensures { result ≡ byte 2 w }
-{
-    ((w >> 16) & 255) as u8
-}
-
-pub(crate) fn row3(w: u32) -> u8
-    ensures { result ≡ byte 3 w }
-{
-    ((w >> 24) & 255) as u8
+    column.to_le_bytes()
 }
 
 // The column of four bytes.
-pub(crate) fn column_of(a: u8, b: u8, c: u8, d: u8) -> u32
-    ensures { bytes4 result ≡ a ∷ b ∷ c ∷ d ∷ [] }
+pub(crate) fn column_of(rows: [u8; 4]) -> u32
+    ensures { bytes4 result ≡ rows }
 {
-    ((((((d as u32) << 8) | (c as u32)) << 8) | (b as u32)) << 8) | (a as u32)
+    u32::from_le_bytes(rows)
 }
 
 // Two columns as a word of 64 bits.
+#[tactic(auto, using(crate::proofs::Halves::whole))]
 fn joined(a: u32, b: u32) -> u64
     ensures { bytes8 result ≡ bytes4 a ++ bytes4 b }
 {
-    ((b as u64) << 32) | (a as u64)
+    (u64::from(b) << 32) | u64::from(a)
 }
 
-impl Block {
-    // The block of 16 bytes, first to last.
-    pub fn from_bytes(bytes: [u8; 16]) -> Block
-        ensures { bytes_of result ≡ bytes }
-    {
+// The block of 16 bytes, first to last.
+impl From<[u8; 16]> for Block {
+    ghost from_gives = { λ bytes block. bytes_of block ≡ bytes };
+
+    #[tactic(auto, using(crate::proofs::Words::sixteen))]
+    fn from(bytes: [u8; 16]) -> Block {
         Block {
-            a: column_of(bytes[0], bytes[1], bytes[2], bytes[3]),
-            b: column_of(bytes[4], bytes[5], bytes[6], bytes[7]),
-            c: column_of(bytes[8], bytes[9], bytes[10], bytes[11]),
-            d: column_of(bytes[12], bytes[13], bytes[14], bytes[15]),
+            a: column_of([bytes[0], bytes[1], bytes[2], bytes[3]]),
+            b: column_of([bytes[4], bytes[5], bytes[6], bytes[7]]),
+            c: column_of([bytes[8], bytes[9], bytes[10], bytes[11]]),
+            d: column_of([bytes[12], bytes[13], bytes[14], bytes[15]]),
         }
     }
+}
 
-    // The 16 bytes of the block.
-    pub fn bytes(self) -> [u8; 16]
-        ensures { result ≡ bytes_of self }
-    {
+// The 16 bytes of the block.
+impl From<Block> for [u8; 16] {
+    ghost from_gives = { λ block bytes. bytes ≡ bytes_of block };
+
+    #[tactic(auto, unfolding(crate::specs::Columns::columns, crate::specs::Bytes::bytes4))]
+    fn from(block: Block) -> [u8; 16] {
+        let [a0, a1, a2, a3] = rows(block.a);
+        let [b0, b1, b2, b3] = rows(block.b);
+        let [c0, c1, c2, c3] = rows(block.c);
+        let [d0, d1, d2, d3] = rows(block.d);
         [
-            row0(self.a),
-            row1(self.a),
-            row2(self.a),
-            row3(self.a),
-            row0(self.b),
-            row1(self.b),
-            row2(self.b),
-            row3(self.b),
-            row0(self.c),
-            row1(self.c),
-            row2(self.c),
-            row3(self.c),
-            row0(self.d),
-            row1(self.d),
-            row2(self.d),
-            row3(self.d),
+            a0, a1, a2, a3, b0, b1, b2, b3, c0, c1, c2, c3, d0, d1, d2, d3,
         ]
     }
+}
 
+// By methods: two words in a tuple would not say which is low.
+impl Block {
     // The block of two words of 64 bits, the low word's bytes first, each lowest byte first.
+    #[tactic(auto, using(crate::proofs::Halves::masked, crate::proofs::Words::columns_halves))]
     pub fn from_words(low: u64, high: u64) -> Block
         ensures { bytes_of result ≡ bytes8 low ++ bytes8 high }
     {
@@ -101,6 +82,7 @@ impl Block {
     }
 
     // The two words of the block, the low word first.
+    #[tactic(auto, using(crate::proofs::Words::columns_halves))]
     pub fn words(self) -> (u64, u64)
         ensures { bytes8 result.0 ++ bytes8 result.1 ≡ bytes_of self }
     {

@@ -7,22 +7,23 @@ use crate::block::Block;
 use crate::key_schedule::RoundKeys;
 use crate::round::{add_round_key, full_round, last_round};
 
-// All rounds, each with its round key.
-fn rounds_under(keys: &RoundKeys, block: Block) -> Block
-    ensures { bytes_of result ≡ enciphered (bytes_of keys.now.key) (bytes_of block) }
-{
-    let mut s = add_round_key(block, keys.at(0));
-    for r in 1..10 {
-        s = full_round(s, keys.at(r));
-    }
-    last_round(s, keys.at(10))
-}
-
 // The block encrypted under the key that the round keys were made of.
+// The rounds one by one: as a loop the AES hash takes 599 instructions a call in place of 519.
+#[tactic(auto, unfolding(crate::specs::Cipher::rounds, crate::specs::Cipher::cipher))]
 pub fn encrypt_under(keys: &RoundKeys, block: Block) -> Block
     ensures { bytes_of result ≡ enciphered (bytes_of keys.now.key) (bytes_of block) }
 {
-    rounds_under(keys, block)
+    let state = add_round_key(block, keys.at(0));
+    let state = full_round(state, keys.at(1));
+    let state = full_round(state, keys.at(2));
+    let state = full_round(state, keys.at(3));
+    let state = full_round(state, keys.at(4));
+    let state = full_round(state, keys.at(5));
+    let state = full_round(state, keys.at(6));
+    let state = full_round(state, keys.at(7));
+    let state = full_round(state, keys.at(8));
+    let state = full_round(state, keys.at(9));
+    last_round(state, keys.at(10))
 }
 
 // The block encrypted under a key, with the key's expansion.

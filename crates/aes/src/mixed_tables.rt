@@ -1,8 +1,8 @@
 // The S-box with MixColumns after it, as a table for each row: what the row's byte adds to its mixed column.
-ghost use Rattle.std.specs.Prelude.{◌≡◌};
+ghost use Rattle.std.specs.Prelude.{◌≡◌, ◌<◌};
 ghost use Rattle.aes.specs.Bytes.{bytes4};
 ghost use Rattle.aes.specs.SBox.{s_box};
-ghost use Rattle.aes.specs.Shares.{share0, share1, share2, share3};
+ghost use Rattle.aes.specs.Shares.{share};
 
 static MIXED: [[u32; 256]; 4] = [
     [
@@ -163,26 +163,10 @@ static MIXED: [[u32; 256]; 4] = [
     ],
 ];
 
-pub fn mix_row0(x: u8) -> u32
-    ensures { bytes4 result ≡ share0 (s_box x) }
+// The entry of row R's table.
+pub fn mix<const R: usize>(x: u8) -> u32
+    requires { R < 4 }
+    ensures { bytes4 result ≡ share R (s_box x) }
 {
-    MIXED[0][x as usize]
-}
-
-pub fn mix_row1(x: u8) -> u32
-    ensures { bytes4 result ≡ share1 (s_box x) }
-{
-    MIXED[1][x as usize]
-}
-
-pub fn mix_row2(x: u8) -> u32
-    ensures { bytes4 result ≡ share2 (s_box x) }
-{
-    MIXED[2][x as usize]
-}
-
-pub fn mix_row3(x: u8) -> u32
-    ensures { bytes4 result ≡ share3 (s_box x) }
-{
-    MIXED[3][x as usize]
+    MIXED[R][x as usize]
 }

@@ -5,10 +5,11 @@ ghost use Rattle.aes.specs.Columns.{bytes_of};
 ghost use Rattle.aes.specs.Rounds.{add_round_key, full_round, last_round, mixed};
 ghost use Rattle.aes.specs.SBox.{s_box};
 
-use crate::block::{Block, column_of, row0, row1, row2, row3};
-use crate::mixed_tables::{mix_row0, mix_row1, mix_row2, mix_row3};
+use crate::block::{Block, column_of, rows};
+use crate::mixed_tables::mix;
 use crate::s_box::sub_byte;
 
+#[tactic(auto, using(crate::proofs::RoundSteps::key_added))]
 pub fn add_round_key(s: Block, k: Block) -> Block
     ensures { bytes_of result ≡ add_round_key (bytes_of s) (bytes_of k) }
 {
@@ -21,12 +22,14 @@ pub fn add_round_key(s: Block, k: Block) -> Block
 }
 
 // One column of a full round.
+#[tactic(auto, using(crate::proofs::RoundSteps::mixed_word_and_key), unfolding(crate::specs::Bytes::bytes4))]
 fn full_column(p: u32, q: u32, s: u32, t: u32, k: u32) -> u32
     ensures { bytes4 result ≡ xors (mixed (s_box (byte 0 p)) (s_box (byte 1 q)) (s_box (byte 2 s)) (s_box (byte 3 t))) (bytes4 k) }
 {
-    mix_row0(row0(p)) ^ mix_row1(row1(q)) ^ mix_row2(row2(s)) ^ mix_row3(row3(t)) ^ k
+    mix::<0>(rows(p)[0]) ^ mix::<1>(rows(q)[1]) ^ mix::<2>(rows(s)[2]) ^ mix::<3>(rows(t)[3]) ^ k
 }
 
+#[tactic(auto, using(crate::proofs::RoundSteps::full_round_columns))]
 pub fn full_round(s: Block, k: Block) -> Block
     ensures { bytes_of result ≡ full_round (bytes_of s) (bytes_of k) }
 {
@@ -38,18 +41,20 @@ pub fn full_round(s: Block, k: Block) -> Block
     }
 }
 
-// One column of the last round.
+// One column of the last round. `last_round` is `full_round` over it: with the column's function as a parameter both contracts would speak of that function.
+#[tactic(auto, using(crate::proofs::Words::bytes4_xor), unfolding(crate::specs::Bytes::bytes4))]
 fn last_column(p: u32, q: u32, s: u32, t: u32, k: u32) -> u32
     ensures { bytes4 result ≡ xors (s_box (byte 0 p) ∷ s_box (byte 1 q) ∷ s_box (byte 2 s) ∷ s_box (byte 3 t) ∷ []) (bytes4 k) }
 {
-    column_of(
-        sub_byte(row0(p)),
-        sub_byte(row1(q)),
-        sub_byte(row2(s)),
-        sub_byte(row3(t)),
-    ) ^ k
+    column_of([
+        sub_byte(rows(p)[0]),
+        sub_byte(rows(q)[1]),
+        sub_byte(rows(s)[2]),
+        sub_byte(rows(t)[3]),
+    ]) ^ k
 }
 
+#[tactic(auto, using(crate::proofs::RoundSteps::last_round_columns))]
 pub fn last_round(s: Block, k: Block) -> Block
     ensures { bytes_of result ≡ last_round (bytes_of s) (bytes_of k) }
 {

@@ -9,13 +9,13 @@ use Rattle.circuit.specs.Parts.{Parts, parts_at, parts_of}
 use Rattle.circuit.specs.Gates.{form_of, output_of, wires_in, in_order}
 use Rattle.circuit.specs.Check.{size_refusal, shape_refusal, gates_refusal, circuit_refusal, most_wires}
 use Rattle.circuit.specs.Forms.{known}
-use Rattle.circuit.specs.Lent.{parts_in, Behind, Whole}
+use Rattle.circuit.specs.Lent.{parts_in, Behind}
 use Rattle.circuit.specs.Passed.{Passed}
 use Rattle.circuit.specs.declared.sizes.Sizes.{Sizes}
 use Rattle.circuit.specs.declared.arrays.Arrays.{Arrays}
 use Rattle.circuit.specs.declared.refusal.Refusal.{Refusal}
 use Rattle.circuit.specs.declared.refusal.Refusal.TheVariants.{Short, Size, Length, NotMade}
-use Rattle.circuit.proofs.Stretches.{length_part}
+use Rattle.circuit.proofs.Wholes.{whole_in}
 use Rattle.circuit.proofs.Checks.{or_else_none, only_none, each_passes, gate_in_order}
 use Rattle.circuit.proofs.Shapes.{shape_known}
 
@@ -62,23 +62,6 @@ behind_part bytes k at n e =
     ap (take (2 * n)) (d ∙ ap (λ (j : ℕ). drop j bytes) p)
 
 module _ (bytes rest : List ℕ) (s : Sizes) (a : Arrays) (b : Behind s rest a) where
-  pub arrays_whole : Whole (parts_in a)
-  arrays_whole =
-      let l = b.long in
-      let z = b.sizes in
-      let f = length_part 0 s.gates rest (omega arith) in
-      let p = length_part s.gates s.gates rest (omega arith) in
-      let o = length_part (2 * s.gates) s.operands rest (omega arith) in
-      let r = length_part (2 * s.gates + s.operands) s.rows rest (omega arith) in
-      let u = length_part (2 * s.gates + s.operands + s.rows) s.outputs rest (omega arith) in
-      record {
-        forms = ap length b.forms ∙ f ∙ cc;
-        places = ap length b.places ∙ p ∙ cc;
-        operands = ap length b.operands ∙ o ∙ cc;
-        rows = ap length b.rows ∙ r ∙ cc;
-        outputs = ap length b.outputs ∙ u ∙ cc;
-      }
-
   pub arrays_are : rest ≡ drop 10 bytes → s ≡ sizes_of bytes → parts_in a ≡ parts_of bytes
   arrays_are er es =
       let f = behind_part bytes 0 5 s.gates (omega arith) in
@@ -139,7 +122,7 @@ module _ (bytes rest : List ℕ) (s : Sizes) (long : 10 ≤ length bytes) (es : 
     module _ (w : ℕ) (gates : gates_refusal (parts_in a) a.sizes.gates ≡ None) (wires : w ≡ wires_in (parts_in a)) where
       outputs_same : all_below (word_at a.outputs.now) (length a.outputs.now / 2) w ≡ all_below (output_of (parts_of bytes)) (sizes_of bytes).outputs (wires_in (parts_of bytes))
       outputs_same =
-          let l : length a.outputs.now ≡ 2 * a.sizes.outputs = (arrays_whole bytes rest s a b).outputs in
+          let l : length a.outputs.now ≡ 2 * a.sizes.outputs = a.outputs_long in
           let n : length a.outputs.now / 2 ≡ a.sizes.outputs = omega arith in
           ap₂ (λ (m v : ℕ). all_below (output_of (parts_in a)) m v) n wires
           ∙ ap (λ (p : Parts). all_below (output_of p) p.sizes.outputs (wires_in p)) same
@@ -157,7 +140,7 @@ module _ (bytes rest : List ℕ) (s : Sizes) (long : 10 ≤ length bytes) (es : 
           record {
             passes = circuit_passes bytes long limits full (gates_same ∙ gates) (sym (e ∙ outputs_same));
             parts = same;
-            whole = arrays_whole bytes rest s a b;
+            whole = whole_in a;
             count = wires;
             few = few;
             inputs = subst (λ (t : Sizes). t.inputs ≤ 256) (sym z) i;

@@ -4,3 +4,4 @@ pub mod Stretches
 pub mod GateParts
 pub mod Checks
 pub mod Circuits
+pub mod Wholes

@@ -3,10 +3,9 @@ use Rattle.std.proofs.Common.{◌≡◌, ℕ, ◌+◌, ◌*◌, ◌/◌, ◌^◌
 use Rattle.std.proofs.lemmas.Bool.Decides.{nat_tests}
 use Rattle.std.proofs.lemmas.Bool.{cases_Bool}
 use Rattle.circuit.specs.Forms.{known, is_table, fan_in}
-use Rattle.circuit.specs.Parts.{Parts}
+use Rattle.circuit.specs.Parts.{Parts, Whole}
 use Rattle.circuit.specs.Gates.{form_of, place_of, rows_from, past_arrays}
 use Rattle.circuit.specs.Check.{shape_refusal}
-use Rattle.circuit.specs.Lent.{Whole}
 use Rattle.circuit.specs.declared.refusal.Refusal.TheVariants.{UnknownForm, PastArray}
 
 module _ (c : Parts) (g : ℕ) where

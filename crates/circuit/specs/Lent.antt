@@ -20,14 +20,6 @@ parts_in a = record {
   outputs = a.outputs.now;
 }
 
--- each array is as long as its size says
-pub record Whole (c : Parts) : Type 0 where
-  pub forms : length c.forms ≡ 2 * c.sizes.gates
-  pub places : length c.places ≡ 2 * c.sizes.gates
-  pub operands : length c.operands ≡ 2 * c.sizes.operands
-  pub rows : length c.rows ≡ 2 * c.sizes.rows
-  pub outputs : length c.outputs ≡ 2 * c.sizes.outputs
-
 -- the arrays are the parts of what stands behind the header, one after another
 pub record Behind (s : Sizes) (rest : List ℕ) (a : Arrays) : Type 0 where
   pub long : length rest ≡ 2 * (2 * s.gates + s.operands + s.rows + s.outputs)

@@ -1,5 +1,5 @@
 -- The arrays of a circuit, each as the bytes of its words. Assumes nothing.
-use Rattle.std.specs.Prelude.{ℕ, ◌+◌, ◌*◌, List}
+use Rattle.std.specs.Prelude.{◌≡◌, ℕ, ◌+◌, ◌*◌, List, length}
 use Rattle.circuit.specs.Words.{part}
 use Rattle.circuit.specs.Header.{sizes_of}
 use Rattle.circuit.specs.declared.sizes.Sizes.{Sizes}
@@ -11,6 +11,14 @@ pub record Parts : Type 0 where
   pub operands : List ℕ
   pub rows : List ℕ
   pub outputs : List ℕ
+
+-- each array is as long as its size says
+pub record Whole (c : Parts) : Type 0 where
+  pub forms : length c.forms ≡ 2 * c.sizes.gates
+  pub places : length c.places ≡ 2 * c.sizes.gates
+  pub operands : length c.operands ≡ 2 * c.sizes.operands
+  pub rows : length c.rows ≡ 2 * c.sizes.rows
+  pub outputs : length c.outputs ≡ 2 * c.sizes.outputs
 
 -- the arrays stand behind the sizes, one after another
 abbrev pub parts_at : Sizes → List ℕ → Parts

@@ -2,8 +2,7 @@
 use Rattle.std.specs.Prelude.{◌≡◌, ℕ, ◌≤◌, List, None}
 use Rattle.circuit.specs.Check.{circuit_refusal, most_wires}
 use Rattle.circuit.specs.Gates.{wires_in}
-use Rattle.circuit.specs.Lent.{Whole}
-use Rattle.circuit.specs.Parts.{Parts, parts_of}
+use Rattle.circuit.specs.Parts.{Parts, Whole, parts_of}
 
 -- no refusal, the arrays of these bytes, each whole, and as many wires
 pub record Passed (bytes : List ℕ) (c : Parts) (wires : ℕ) : Type 0 where

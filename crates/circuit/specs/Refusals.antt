@@ -1,5 +1,5 @@
 -- Refusals: their numbers, and the first one met in an order of tests. Assumes nothing.
-use Rattle.std.specs.Prelude.{ℕ, Bool, cond, List, [], ◌∷◌, Some, None, Ok, Err, Option, Result}
+use Rattle.std.specs.Prelude.{ℕ, Bool, cond, List, [], ◌∷◌, ◌++◌, codes, decimal, Some, None, Ok, Err, Option, Result}
 use Rattle.circuit.specs.declared.refusal.Refusal.{Refusal}
 use Rattle.circuit.specs.declared.refusal.Refusal.TheVariants.{Short, Size, Length, UnknownForm, PastArray, TooManyWires, NotMade, WideRow, Turn, Memory, Material, Number, Bit, Again, ZeroSeed, Colourless, Foreign}
 
@@ -42,6 +42,10 @@ gate_of Again = None
 gate_of ZeroSeed = None
 gate_of Colourless = None
 gate_of Foreign = None
+
+-- a refusal in words
+abbrev pub refusal_text : Refusal → List ℕ
+refusal_text why = codes "refused " ++ decimal (number_of why)
 
 -- the refusal of the first test that is met
 abbrev pub first_of : List (Bool × Refusal) → Option Refusal

@@ -1,12 +1,14 @@
 // The gates of a circuit.
-ghost use Rattle.std.specs.Prelude.{◌≡◌, ◌/◌, ◌^◌, ◌<◌, ◌≤◌, true, length, Some, None, MatchResult};
-ghost use Rattle.circuit.specs.Words.{word_at, all_below};
+ghost use Rattle.std.specs.Prelude.{◌≡◌, ◌+◌, ◌*◌, ◌/◌, ◌^◌, ◌<◌, ◌≤◌, length, Some, None, MatchResult};
+ghost use Rattle.circuit.specs.Words.{part, word_at, all_below};
 ghost use Rattle.circuit.specs.Check.{shape_refusal};
-ghost use Rattle.circuit.specs.Forms.{is_table, makes};
+ghost use Rattle.circuit.specs.Forms.{is_table};
 ghost use Rattle.circuit.specs.Gates.{form_of, place_of, made_before, wires_in};
-ghost use Rattle.circuit.specs.Lent.{parts_in, Whole, GateAt, new_in, operands_in, narrow};
+ghost use Rattle.circuit.specs.Lent.{parts_in, GateAt, new_in, operands_in, narrow};
 
-use crate::arrays::{Arrays, stretch};
+use crate::arrays::Arrays;
+use crate::cut::stretch;
+use crate::forms::form_makes;
 use crate::refusal::Refusal;
 use crate::words::{word_at, words_below};
 
@@ -30,7 +32,8 @@ pub enum Gate<'a> {
 // 2^n
 pub fn two_to(n: u16) -> u32
     requires { n ≤ 16 }
-    ensures { (result ≡ 2 ^ n) × (result ≤ 65536) }
+    ensures power { result ≡ 2 ^ n }
+    ensures few { result ≤ 65536 }
 {
     1 << n
 }
@@ -39,15 +42,20 @@ pub fn two_to(n: u16) -> u32
 fn table_form(form: u16) -> bool
     ensures { result ≡ is_table form }
 {
-    let n = form / 256;
-    let m = form % 256;
-    1 <= n && n <= 8 && 1 <= m && m <= 16
+    (1..=8).contains(&(form / 256)) && (1..=16).contains(&(form % 256))
+}
+
+// A stretch of words of gate g, which is refused where it runs past its array.
+fn stretch_of(g: u16, array: &[u8], from: u16, count: u32) -> Result<&[u8], Refusal>
+    ensures { MatchResult result (λ x. (2 * (from + count) ≤ length array.now) × (x.now ≡ part from count array.now)) (λ why. (why ≡ Refusal.PastArray g) × (length array.now < 2 * (from + count))) }
+{
+    stretch(array, from, count).ok_or(Refusal::PastArray(g))
 }
 
 // Gate g; refused where its form is unknown or a part of it runs past its array.
+// The form is a number here and in `table_at`, as the format has it; from here on it is a case of `Gate`.
 pub fn gate_at<'a>(a: Arrays<'a>, g: u16) -> Result<Gate<'a>, Refusal>
     requires there { g < a.sizes.gates }
-    requires whole { Whole (parts_in a) }
     ensures { MatchResult result (λ gate. (shape_refusal (parts_in a.entry) g ≡ None) × GateAt (parts_in a.entry) g gate) (λ why. shape_refusal (parts_in a.entry) g ≡ Some why) }
 {
     let form = word_at(a.forms, usize::from(g));
@@ -55,9 +63,7 @@ pub fn gate_at<'a>(a: Arrays<'a>, g: u16) -> Result<Gate<'a>, Refusal>
     if form > 1 {
         return table_at(a, g, form, place);
     }
-    let Some(operands) = stretch(a.operands, place, 2) else {
-        return Err(Refusal::PastArray(g));
-    };
+    let operands = stretch_of(g, a.operands, place, 2)?;
     if form == 0 {
         Ok(Gate::Xor { operands })
     } else {
@@ -67,7 +73,6 @@ pub fn gate_at<'a>(a: Arrays<'a>, g: u16) -> Result<Gate<'a>, Refusal>
 
 // Gate g of a form above 1.
 fn table_at<'a>(a: Arrays<'a>, g: u16, form: u16, place: u16) -> Result<Gate<'a>, Refusal>
-    requires whole { Whole (parts_in a) }
     requires high { 1 < form }
     requires formed { form ≡ form_of (parts_in a) g }
     requires placed { place ≡ place_of (parts_in a) g }
@@ -77,13 +82,9 @@ fn table_at<'a>(a: Arrays<'a>, g: u16, form: u16, place: u16) -> Result<Gate<'a>
         return Err(Refusal::UnknownForm(g));
     }
     let n = form / 256;
-    let Some(words) = stretch(a.operands, place, u32::from(n) + 1) else {
-        return Err(Refusal::PastArray(g));
-    };
+    let words = stretch_of(g, a.operands, place, u32::from(n) + 1)?;
     let first = word_at(words, usize::from(n));
-    let Some(rows) = stretch(a.rows, first, two_to(n)) else {
-        return Err(Refusal::PastArray(g));
-    };
+    let rows = stretch_of(g, a.rows, first, two_to(n))?;
     Ok(Gate::Table {
         n,
         m: form % 256,
@@ -98,14 +99,8 @@ impl<'a> Gate<'a> {
         ensures { result ≡ new_in self.entry }
     {
         match self {
-            Gate::Xor { operands: _ } => 1,
-            Gate::And { operands: _ } => 1,
-            Gate::Table {
-                n: _,
-                m,
-                operands: _,
-                rows: _,
-            } => m,
+            Gate::Xor { .. } | Gate::And { .. } => 1,
+            Gate::Table { m, .. } => m,
         }
     }
 
@@ -114,14 +109,8 @@ impl<'a> Gate<'a> {
         ensures { result.now ≡ operands_in self.entry }
     {
         match self {
-            Gate::Xor { operands } => operands,
-            Gate::And { operands } => operands,
-            Gate::Table {
-                n: _,
-                m: _,
+            Gate::Xor { operands } | Gate::And { operands } | Gate::Table { operands, .. } =>
                 operands,
-                rows: _,
-            } => operands,
         }
     }
 
@@ -138,46 +127,29 @@ impl<'a> Gate<'a> {
         ensures { result ≡ narrow self.entry }
     {
         match self {
-            Gate::Xor { operands: _ } => true,
-            Gate::And { operands: _ } => true,
-            Gate::Table {
-                n: _,
-                m,
-                operands: _,
-                rows,
-            } => words_below(rows, two_to(m)),
+            Gate::Xor { .. } | Gate::And { .. } => true,
+            Gate::Table { m, rows, .. } => words_below(rows, two_to(m)),
         }
     }
 }
 
-// Gate g of a circuit that passed.
+// Gate g, whose form and places passed.
 pub fn passed_gate<'a>(a: Arrays<'a>, g: u16) -> Gate<'a>
     requires there { g < a.sizes.gates }
-    requires whole { Whole (parts_in a) }
     requires passed { shape_refusal (parts_in a) g ≡ None }
     ensures { GateAt (parts_in a.entry) g result }
 {
-    match gate_at(a, g) {
-        Ok(gate) => gate,
-        Err(_) => unreachable(),
-    }
-}
-
-// How many wires a gate of a form makes.
-fn form_makes(form: u16) -> u16
-    ensures { result ≡ makes form }
-{
-    if form <= 1 { 1 } else { form % 256 }
+    gate_at(a, g).unwrap()
 }
 
 // The wires made before gate g.
 pub fn wires_before(a: Arrays, g: u16) -> u16
-    requires whole { Whole (parts_in a) }
     requires there { g ≤ a.sizes.gates }
-    requires few { wires_in (parts_in a) ≤ 1024 }
+    requires few { wires_in (parts_in a) < 2 ^ 16 }
     ensures { result ≡ made_before (parts_in a.entry) g }
 {
     let mut made = a.sizes.inputs;
+    // Over the numbers of the gates: a sum of a chain would ask for its bound as a fact about a list.
     for k in 0..g {
         made += form_makes(word_at(a.forms, usize::from(k)));
     }

@@ -27,7 +27,7 @@ pub fn header(circuit: &[u8]) -> Result<(Sizes, &[u8]), Refusal>
 pub fn within_limits(s: Sizes) -> bool
     ensures { result ≡ within s }
 {
-    let inputs = 1 <= s.inputs && s.inputs <= 256;
-    let outputs = 1 <= s.outputs && s.outputs <= 256;
+    let inputs = (1..=256).contains(&s.inputs);
+    let outputs = (1..=256).contains(&s.outputs);
     inputs && s.gates <= 512 && outputs && s.operands <= 4096 && s.rows <= 4096
 }

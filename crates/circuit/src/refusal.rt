@@ -1,9 +1,12 @@
 // Why a call is refused.
-ghost use Rattle.std.specs.Prelude.{◌≡◌};
-ghost use Rattle.circuit.specs.Refusals.{number_of, gate_of};
+ghost use Rattle.std.specs.Prelude.{◌≡◌, Some};
+ghost use Rattle.circuit.specs.Refusals.{number_of, gate_of, refusal_text};
+
+use std::error::Error;
+use std::fmt;
 
 // Those from `UnknownForm` to `WideRow` name a gate; a wire of the output list has the gate count.
-#[derive(Clone, Copy)]
+#[derive(Clone, Copy, PartialEq, Eq, Debug)]
 pub enum Refusal {
     Short,
     Size,
@@ -55,12 +58,23 @@ impl Refusal {
         ensures { result ≡ gate_of self }
     {
         match self {
-            Refusal::UnknownForm(g) => Some(g),
-            Refusal::PastArray(g) => Some(g),
-            Refusal::TooManyWires(g) => Some(g),
-            Refusal::NotMade(g) => Some(g),
-            Refusal::WideRow(g) => Some(g),
+            Refusal::UnknownForm(g)
+            | Refusal::PastArray(g)
+            | Refusal::TooManyWires(g)
+            | Refusal::NotMade(g)
+            | Refusal::WideRow(g) => Some(g),
             _ => None,
         }
     }
 }
+
+impl fmt::Display for Refusal {
+    ghost output = { λ why. Some (refusal_text why) };
+
+    fn fmt<W: fmt::Write>(&self, f: &mut fmt::Formatter<W>) -> fmt::Result {
+        let number = self.number();
+        write!(f, "refused {number}")
+    }
+}
+
+impl Error for Refusal {}

@@ -1,7 +1,7 @@
 // The sizes of a circuit, and what its check answers.
 
 // The five words that a circuit begins with.
-#[derive(Clone, Copy)]
+#[derive(Clone, Copy, PartialEq, Eq, Debug)]
 pub struct Sizes {
     pub inputs: u16,
     pub gates: u16,
@@ -11,7 +11,7 @@ pub struct Sizes {
 }
 
 // A circuit that passed: its sizes, its wires, and its material in bits and in bytes.
-#[derive(Clone, Copy)]
+#[derive(Clone, Copy, PartialEq, Eq, Debug)]
 pub struct Checked {
     pub sizes: Sizes,
     pub wires: u16,

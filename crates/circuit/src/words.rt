@@ -5,7 +5,7 @@ ghost use Rattle.circuit.specs.Words.{word_at, all_below};
 pub fn word(low: u8, high: u8) -> u16
     ensures { result ≡ low + 256 * high }
 {
-    u16::from(low) + 256 * u16::from(high)
+    u16::from_le_bytes([low, high])
 }
 
 // Word k of some bytes.
@@ -20,10 +20,5 @@ pub fn word_at(bytes: &[u8], k: usize) -> u16
 pub fn words_below(bytes: &[u8], bound: u32) -> bool
     ensures { result ≡ all_below (word_at bytes.now) (length bytes.now / 2) bound }
 {
-    for k in 0..bytes.len() / 2 {
-        if u32::from(word_at(bytes, k)) >= bound {
-            return false;
-        }
-    }
-    true
+    (0..bytes.len() / 2).all(|k| u32::from(word_at(bytes, k)) < bound)
 }

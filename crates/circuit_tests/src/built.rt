@@ -4,17 +4,13 @@ use circuit::refusal::Refusal;
 use labels::long::Long;
 use std::alloc::{AllocError, Global};
 
-// Some words, and then as many zero words.
-#[derive(Clone, Copy)]
-pub struct Words<'a>(pub &'a [u16], pub u16);
-
-// The bytes of a circuit, the lower byte of each word first.
-pub fn circuit_of(heap: Global, words: Words) -> Result<Vec<u8>, AllocError> {
+// The bytes of a circuit of these words and as many zero words, the lower byte of each word first.
+pub fn circuit_of(heap: Global, words: &[u16], zeros: u16) -> Result<Vec<u8>, AllocError> {
     let mut bytes = Vec::new(heap);
-    for word in words.0 {
+    for word in words {
         bytes.extend_from_slice(&word.to_le_bytes())?;
     }
-    repeat(&mut bytes, 0, words.1)?;
+    repeat(&mut bytes, 0, zeros)?;
     Ok(bytes)
 }
 
@@ -26,25 +22,14 @@ pub fn repeat(bytes: &mut Vec<u8>, word: u16, times: u16) -> Result<(), AllocErr
     Ok(())
 }
 
-// A refusal's number, and the gate that it names.
-#[derive(Clone, Copy, PartialEq, Eq, Debug)]
-pub enum Answer {
-    Passes,
-    Refused(u8),
-    RefusedAt(u8, u16),
-}
+// Nothing, or a refusal's number and the gate that it names.
+pub type Answer = Result<(), (u8, Option<u16>)>;
 
-pub fn answer_of(why: Refusal) -> Answer {
-    match why.gate() {
-        Some(g) => Answer::RefusedAt(why.number(), g),
-        None => Answer::Refused(why.number()),
-    }
+pub fn numbers_of(why: Refusal) -> (u8, Option<u16>) {
+    (why.number(), why.gate())
 }
 
 // What the check answers, with long labels.
 pub fn answer_to(circuit: &[u8]) -> Answer {
-    match check::<Long>(circuit) {
-        Ok(_) => Answer::Passes,
-        Err(why) => answer_of(why),
-    }
+    check::<Long>(circuit).map(|_| ()).map_err(numbers_of)
 }

@@ -1,5 +1,5 @@
 // The evaluator's output bits.
-ghost use Rattle.std.specs.Prelude.{◌≡◌, length, Some, None, MatchResult};
+ghost use Rattle.std.specs.Prelude.{◌≡◌, length, Some, None, OnOk, OnErr, IfErr};
 ghost use Rattle.circuit.specs.Parts.{parts_of};
 ghost use Rattle.memory.specs.Outputs.{decoded_of};
 ghost use Rattle.parties.specs.Refusing.{decode_refusal};
@@ -9,7 +9,6 @@ use circuit::refusal::Refusal;
 use labels::kind::Label;
 use memory::outputs::write_outputs;
 use parties::state::{Call, in_turn};
-use parties::turn::may_outputs;
 use plain::run::all_bits;
 
 impl Evaluator {
@@ -21,10 +20,15 @@ impl Evaluator {
         colours: &[u8],
         outputs: &mut [u8],
     ) -> Result<(), Refusal>
-        ensures { MatchResult result (λ _. (decode_refusal self.now.side circuit.now (length wires.now) colours.now (length outputs.old) ≡ None) × (outputs.new ≡ decoded_of L.kind wires.now (parts_of circuit.now).outputs colours.now (length outputs.old))) (λ why. (decode_refusal self.now.side circuit.now (length wires.now) colours.now (length outputs.old) ≡ Some why) × (outputs.new ≡ outputs.old)) }
+        ensures accepted { OnOk result (decode_refusal self.now.progress.side circuit.now (length wires.now) colours.now (length outputs.old) ≡ None) }
+        ensures written { OnOk result (outputs.new ≡ decoded_of L.kind wires.now (parts_of circuit.now).outputs colours.now (length outputs.old)) }
+        ensures refused { IfErr result (λ why. decode_refusal self.now.progress.side circuit.now (length wires.now) colours.now (length outputs.old) ≡ Some why) }
+        ensures same { OnErr result (outputs.new ≡ outputs.old) }
     {
         let turn = in_turn(self.state(), Call::Decode);
-        let list = may_outputs(&self.side, turn, circuit, wires.len(), colours.len())?;
+        let list = self
+            .progress
+            .may_outputs(turn, circuit, wires.len(), colours.len())?;
         if outputs.len() != colours.len() {
             return Err(Refusal::Memory);
         }

@@ -1,27 +1,16 @@
 // The evaluator's joining.
-ghost use Rattle.std.specs.Prelude.{◌≡◌, length, Some, None, MatchResult};
+ghost use Rattle.std.specs.Prelude.{◌≡◌, length, Some, None, OnOk, OnErr, IfErr};
 ghost use Rattle.circuit.specs.Parts.{parts_of};
-ghost use Rattle.parties.specs.Refusing.{join_refusal, begin_refusal};
-ghost use Rattle.parties.specs.Ready.{Sized};
+ghost use Rattle.parties.specs.Refusing.{join_refusal};
 ghost use Rattle.evaluator.specs.Evaluating.{Joined};
 
 use crate::record::{Evaluator, EvaluatorToken};
 use circuit::refusal::Refusal;
-use circuit::sizes::Sizes;
 use labels::kind::Label;
 use memory::start::join_wires;
-use parties::side::Side;
+use parties::progress::Progress;
 use parties::state::{Call, in_turn};
 use parties::turn::may_begin;
-
-// The sizes and the wires of the circuit, once nothing stands against a joining.
-fn may_join(turn: bool, circuit: &[u8], wires: usize) -> Result<(Sizes, u16), Refusal>
-    ensures { MatchResult result (λ v. (begin_refusal circuit.now turn wires ≡ None) × Sized circuit.now v.0 v.1 wires) (λ why. begin_refusal circuit.now turn wires ≡ Some why) }
-{
-    let c = may_begin(turn, circuit, wires)?;
-    let sizes = c.arrays.sizes;
-    Ok((sizes, c.wires))
-}
 
 impl Evaluator {
     // Begins with a circuit, its row words zero or not: every wire is zero.
@@ -30,13 +19,18 @@ impl Evaluator {
         circuit: &[u8],
         wires: &mut [L],
     ) -> Result<EvaluatorToken, Refusal>
-        ensures { MatchResult result (λ _. (join_refusal self.old.side circuit.now (length wires.old) ≡ None) × Joined L.kind (parts_of circuit.now) self.new.side wires.old wires.new) (λ why. (join_refusal self.old.side circuit.now (length wires.old) ≡ Some why) × (self.new ≡ self.old) × (wires.new ≡ wires.old)) }
+        ensures accepted { OnOk result (join_refusal self.old.progress.side circuit.now (length wires.old) ≡ None) }
+        ensures joined { OnOk result (Joined L.kind (parts_of circuit.now) self.new.progress.side wires.old wires.new) }
+        ensures refused { IfErr result (λ why. join_refusal self.old.progress.side circuit.now (length wires.old) ≡ Some why) }
+        ensures same { OnErr result (self.new ≡ self.old) }
+        ensures wires { OnErr result (wires.new ≡ wires.old) }
     {
         let turn = in_turn(self.state(), Call::Join);
-        let (sizes, total) = may_join(turn, circuit, wires.len())?;
-        join_wires(wires, total);
-        let side = Side::start(sizes, total);
-        *self = Evaluator { side };
+        let passed = may_begin(turn, circuit, wires.len())?;
+        join_wires(wires, passed.wires);
+        *self = Evaluator {
+            progress: Progress::start(passed),
+        };
         Ok(EvaluatorToken(()))
     }
 }

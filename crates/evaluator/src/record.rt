@@ -1,27 +1,26 @@
 // The evaluator's record, and the token of its joining.
-ghost use Rattle.std.specs.Prelude.{◌≡◌, ◌*◌, ◌≤◌};
-ghost use Rattle.parties.specs.Side.{most_bytes, unused};
+ghost use Rattle.std.specs.Prelude.{◌≡◌};
+ghost use Rattle.parties.specs.Side.{unused};
 
-use parties::side::Side;
+use parties::progress::Progress;
 
-// A side that evaluates: its way through the open copy of the circuit.
+// A side that evaluates: how far it has come through the open copy of the circuit.
 #[derive(Drop)]
 pub struct Evaluator {
-    pub(crate) side: Side,
-    ghost inputs: { side.sizes.inputs ≤ 256 },
-    ghost gates: { side.sizes.gates ≤ 512 },
-    ghost next: { side.next ≤ side.sizes.gates },
-    ghost bytes: { side.bytes ≤ side.next * most_bytes },
+    pub(crate) progress: Progress,
 }
 
 // Handed out by an accepted joining. Only `wipe` takes it: it can neither be let go nor spent twice.
+// A type of its own, so that it cannot end a garbler.
 pub struct EvaluatorToken(pub(crate) ());
 
 impl Evaluator {
     // A new side counts as ended.
     pub fn new() -> Evaluator
-        ensures { result.side ≡ unused }
+        ensures { result.progress.side ≡ unused }
     {
-        Evaluator { side: Side::new() }
+        Evaluator {
+            progress: Progress::new(),
+        }
     }
 }

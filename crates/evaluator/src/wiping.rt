@@ -1,5 +1,5 @@
 // The end of a side.
-ghost use Rattle.std.specs.Prelude.{◌≡◌, length, replicate, Some, None, MatchResult};
+ghost use Rattle.std.specs.Prelude.{◌≡◌, length, replicate, Some, None, OnOk, OnErr, IfErr};
 ghost use Rattle.parties.specs.Side.{unused};
 ghost use Rattle.parties.specs.Refusing.{wipe_refusal};
 ghost use Rattle.parties.specs.States.{state_of, allowed};
@@ -10,26 +10,29 @@ use circuit::refusal::Refusal;
 use gates::clear::clear;
 use labels::kind::Label;
 use parties::state::{Call, in_turn};
-use parties::turn::may_wipe;
 
 impl Evaluator {
     // Zeroes the wire memory, forgets the marks, and ends the side; a denied call hands the token back.
+    // Written for each side: the records differ, and each takes its own token.
     pub fn wipe<L: Label>(
         &mut self,
         token: EvaluatorToken,
         wires: &mut [L],
     ) -> Result<(), (Refusal, EvaluatorToken)>
-        ensures { MatchResult result (λ _. (wipe_refusal self.old.side (allowed (state_of self.old.side) Wipe) (length wires.old) ≡ None) × (self.new.side ≡ unused) × (wires.new ≡ replicate (length wires.old) L.kind.zero)) (λ e. (wipe_refusal self.old.side (allowed (state_of self.old.side) Wipe) (length wires.old) ≡ Some e.0) × (self.new ≡ self.old) × (wires.new ≡ wires.old)) }
+        ensures accepted { OnOk result (wipe_refusal self.old.progress.side (allowed (state_of self.old.progress.side) Wipe) (length wires.old) ≡ None) }
+        ensures ended { OnOk result (self.new.progress.side ≡ unused) }
+        ensures cleared { OnOk result (wires.new ≡ replicate (length wires.old) L.kind.zero) }
+        ensures refused { IfErr result (λ e. wipe_refusal self.old.progress.side (allowed (state_of self.old.progress.side) Wipe) (length wires.old) ≡ Some e.0) }
+        ensures same { OnErr result (self.new ≡ self.old) }
+        ensures wires { OnErr result (wires.new ≡ wires.old) }
     {
         let turn = in_turn(self.state(), Call::Wipe);
-        match may_wipe(&self.side, turn, wires.len()) {
-            Err(why) => Err((why, token)),
-            Ok(()) => {
-                clear(wires);
-                *self = Evaluator::new();
-                let EvaluatorToken(_) = token;
-                Ok(())
-            }
+        if let Err(why) = self.progress.side.may_wipe(turn, wires.len()) {
+            return Err((why, token));
         }
+        clear(wires);
+        *self = Evaluator::new();
+        let EvaluatorToken(_) = token;
+        Ok(())
     }
 }

@@ -1,5 +1,5 @@
 // The garbler's labels of input bits.
-ghost use Rattle.std.specs.Prelude.{◌≡◌, length, Some, None, MatchResult};
+ghost use Rattle.std.specs.Prelude.{◌≡◌, length, Some, None, OnOk, OnErr, IfOk, IfErr};
 ghost use Rattle.parties.specs.Side.{marked};
 ghost use Rattle.parties.specs.Refusing.{encode_refusal};
 ghost use Rattle.garbler.specs.Garbling.{encoded};
@@ -9,7 +9,6 @@ use circuit::refusal::Refusal;
 use gates::scale::times;
 use labels::kind::Label;
 use memory::outputs::label_at;
-use parties::turn::may_input;
 
 impl<L: Label> Garbler<L> {
     // The label of an input's bit: its zero label, with the offset where the bit is 1.
@@ -20,13 +19,19 @@ impl<L: Label> Garbler<L> {
         input: usize,
         bit: u8,
     ) -> Result<L, Refusal>
-        ensures { MatchResult result (λ label. (encode_refusal self.old.side circuit.now (length wires.now) input bit ≡ None) × (label ≡ encoded L.kind self.old.offset wires.now input bit) × (self.new.side ≡ marked self.old.side input) × (self.new.offset ≡ self.old.offset) × (self.new.seed ≡ self.old.seed)) (λ why. (encode_refusal self.old.side circuit.now (length wires.now) input bit ≡ Some why) × (self.new ≡ self.old)) }
+        ensures accepted { OnOk result (encode_refusal self.old.progress.side circuit.now (length wires.now) input bit ≡ None) }
+        ensures label { IfOk result (λ label. label ≡ encoded L.kind self.old.secrets.offset wires.now input bit) }
+        ensures marked { OnOk result (self.new.progress.side ≡ marked self.old.progress.side input) }
+        ensures secrets { OnOk result (self.new.secrets ≡ self.old.secrets) }
+        ensures refused { IfErr result (λ why. encode_refusal self.old.progress.side circuit.now (length wires.now) input bit ≡ Some why) }
+        ensures same { OnErr result (self.new ≡ self.old) }
     {
-        let turn = !self.side.ended;
-        may_input(&self.side, turn, circuit, wires.len(), input, bit)?;
+        let turn = !self.progress.side.ended;
+        self.progress
+            .may_input(turn, circuit, wires.len(), input, bit)?;
         let zero = label_at(wires, input);
-        let label = zero.xor(times(bit == 1, self.offset));
-        self.side.mark(input);
+        let label = zero.xor(times(bit == 1, self.secrets.offset));
+        self.progress.side.mark(input);
         Ok(label)
     }
 }

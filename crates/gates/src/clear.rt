@@ -1,21 +1,14 @@
 // Labels that are cleared.
-ghost use Rattle.std.specs.Prelude.{◌≡◌, ◌<◌, length, replicate, slice_set};
+ghost use Rattle.std.specs.Prelude.{◌≡◌, length, replicate};
 
 use labels::kind::Label;
-
-// Makes one label the zero label.
-fn clear_one<L: Label>(labels: &mut [L], i: usize)
-    requires { i < length labels.old }
-    ensures { labels.new ≡ slice_set labels.old i L.kind.zero }
-{
-    labels[i] = L::zero();
-}
 
 // Makes each label the zero label.
 pub fn clear<L: Label>(labels: &mut [L])
     ensures { labels.new ≡ replicate (length labels.old) L.kind.zero }
 {
-    for i in 0..labels.len() {
-        clear_one(labels, i);
+    // No `fill`: it asks that a clone cannot fail, which the trait `Label` does not say.
+    for label in labels.iter_mut() {
+        *label = L::zero();
     }
 }

@@ -5,6 +5,5 @@ pub mod clear;
 pub mod half;
 pub mod rows;
 pub mod scale;
-pub mod size;
 pub mod tweak;
 pub mod xor;

@@ -1,24 +1,16 @@
 // Labels in bytes of material.
-ghost use Rattle.std.specs.Prelude.{◌≡◌, ◌+◌, ◌-◌, ◌≤◌, length};
-ghost use borrow.Rule.Slice.PartMut.{put_mid};
+ghost use Rattle.std.specs.Prelude.{◌≡◌, ◌+◌, ◌≤◌, length};
 ghost use Rattle.gates.specs.Bytes.{laid, part};
 
 use labels::kind::Label;
-
-// Writes a label's bytes into the part that they fill.
-fn write_part<L: Label>(material: &mut [u8], place: usize, end: usize, label: L)
-    requires { (place + L.kind.width ≡ end) × (end ≤ length material.old) }
-    ensures { material.new ≡ put_mid place (end - place) material.old (L.kind.bytes label) }
-{
-    label.write(&mut material[place..end]);
-}
 
 // Writes a label's bytes from a place on; all other bytes stay.
 pub fn put<L: Label>(material: &mut [u8], place: usize, label: L)
     requires { place + L.kind.width ≤ length material.old }
     ensures { material.new ≡ laid place (L.kind.bytes label) material.old }
 {
-    write_part(material, place, place + L::width(), label);
+    let end = place + L::width();
+    label.write(&mut material[place..end]);
 }
 
 // Reads the label whose bytes begin at a place.
@@ -26,6 +18,6 @@ pub fn get<L: Label>(material: &[u8], place: usize) -> L
     requires { place + L.kind.width ≤ length material.now }
     ensures { result ≡ L.kind.from (part place L.kind.width material.now) }
 {
-    let w = L::width();
-    L::read(&material[place..place + w])
+    let end = place + L::width();
+    L::read(&material[place..end])
 }

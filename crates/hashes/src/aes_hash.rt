@@ -1,27 +1,18 @@
 // The AES hash over long labels.
-ghost use Rattle.std.specs.Prelude.{◌≡◌, ◌^◌, ◌<◌};
+ghost use Rattle.std.specs.Prelude.{◌≡◌};
 ghost use Rattle.hashes.specs.AesHash.{aes_hash, enciphered, tweaked};
 
-use crate::hash::LabelHash;
+use crate::counted::Counted;
+use crate::function::LabelFunction;
 use aes::block::Block;
 use aes::fixed::encrypt_fixed;
 use labels::kind::Label;
 use labels::long::Long;
 
-#[derive(Drop)]
-pub struct AesHash {
-    count: u64,
-    ghost fits: { count < 2 ^ 64 },
-}
+#[derive(Clone, Copy)]
+pub struct AesFunction;
 
-impl AesHash {
-    // The hash with its count of calls so far.
-    pub fn starting_at(count: u64) -> AesHash
-        ensures { result.count ≡ count }
-    {
-        AesHash { count }
-    }
-}
+pub type AesHash = Counted<AesFunction>;
 
 fn with_tweak(label: Long, tweak: u64) -> Long
     ensures { result ≡ tweaked label tweak }
@@ -40,20 +31,11 @@ fn encipher(label: Long) -> Long
     Long { low, high }
 }
 
-impl LabelHash<Long> for AesHash {
-    ghost means = { λ _. aes_hash };
+impl LabelFunction<Long> for AesFunction {
+    ghost means = { aes_hash };
 
-    ghost calls = { λ h. h.count };
-
-    ghost fits = { λ h. h.fits };
-
-    fn hash(&mut self, label: Long, tweak: u64) -> Long {
-        self.count = self.count.saturating_add(1);
+    fn answer(label: Long, tweak: u64) -> Long {
         let y = with_tweak(label, tweak);
         encipher(y).xor(y)
-    }
-
-    fn count(&self) -> u64 {
-        self.count
     }
 }

@@ -1,5 +1,5 @@
 // Labels drawn from a seed.
-ghost use Rattle.std.specs.Prelude.{◌≡◌, ℕ};
+ghost use Rattle.std.specs.Prelude.{◌≡◌};
 ghost use Rattle.hashes.specs.Count.{counted};
 ghost use Rattle.hashes.specs.Draws.{draw as drawn};
 

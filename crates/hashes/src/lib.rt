@@ -2,7 +2,9 @@
 #![tactic(auto)]
 
 pub mod aes_hash;
+pub mod counted;
 pub mod draws;
+pub mod function;
 pub mod hash;
 pub mod paper;
 pub mod sha_hash;

@@ -1,8 +1,8 @@
 // The joint dividend of two ticket counts, in the clear.
-ghost use Rattle.std.specs.Prelude.{◌≡◌, ℕ, ◌+◌, ◌*◌, ◌^◌, ◌<◌, ◌≤◌, false, ◌++◌, length, IfOk, Some, string_bytes, MatchResult, ◌==◌, nat_eq, slice_index, slice_index_or};
-ghost use Rattle.labels.specs.Numbers.{digit, number as number_from};
+ghost use Rattle.std.specs.Prelude.{◌≡◌, ◌≤◌, false, ◌++◌, length, IfOk, Some, string_bytes, MatchResult, nat_eq, slice_index, slice_index_or};
+ghost use Rattle.labels.specs.Numbers.{number as number_from};
 ghost use Rattle.plain.specs.Plain.{plain_refusal};
-ghost use Rattle.listing.specs.Dividend.{low_bits, count_bits, Settled, tickets_line, dividend_line, settle_text};
+ghost use Rattle.listing.specs.Dividend.{low_bits, count_bits, Settled, dividend_line, settle_text};
 ghost use Rattle.listing.specs.Lines.{wire_lines, out_line};
 
 use crate::lines::{add_outputs, add_wires, refused};
@@ -16,8 +16,8 @@ fn write_low(out: &mut [u8], value: u8)
     requires { length out.old ≤ 8 }
     ensures { out.new ≡ low_bits (length out.old) value }
 {
-    for j in 0..out.len() {
-        out[j] = (value >> j) % 2;
+    for (j, bit) in out.iter_mut().enumerate() {
+        *bit = (value >> j) % 2;
     }
 }
 
@@ -31,24 +31,14 @@ fn input_bits(first: u8, second: u8) -> [u8; 14]
     bits
 }
 
-// The weight of an output's bit where it is 1.
-fn weighed(bit: u8, weight: u32) -> u32
-    ensures value { result ≡ digit (bit == 1) * weight }
-    ensures within { result ≤ weight }
-{
-    if bit == 1 { weight } else { 0 }
-}
-
 // The number whose bits the outputs are, the first lowest.
 fn number_of_outputs(outputs: &[u8]) -> u32
     requires { length outputs.now ≡ 16 }
     ensures { result ≡ number_from 16 (λ o. nat_eq (slice_index outputs.now o) 1) }
 {
     let mut sum = 0;
-    let mut weight = 1;
-    for j in 0..outputs.len() {
-        sum += weighed(outputs[j], weight);
-        weight *= 2;
+    for (j, bit) in outputs.iter().enumerate() {
+        sum += u32::from(*bit == 1) << j;
     }
     sum
 }
@@ -66,43 +56,23 @@ pub fn joint_dividend(
 {
     let bits = input_bits(first, second);
     let c = read(circuit)?;
-    match plain(circuit, &bits, wires, outputs) {
-        Ok(()) => Ok((usize::from(c.wires), number_of_outputs(outputs))),
-        Err(why) => Err(why),
-    }
+    plain(circuit, &bits, wires, outputs)?;
+    Ok((usize::from(c.wires), number_of_outputs(outputs)))
 }
 
-// The line of the counts.
-fn tickets(heap: Global, first: u8, second: u8) -> Result<String, AllocError>
-    ensures { IfOk result (λ s. string_bytes s ≡ tickets_line first second) }
-{
-    format!(in heap; "tickets {first} {second}\n")
-}
-
-// The line of the dividend.
-fn dividend_text(heap: Global, dividend: u32) -> Result<String, AllocError>
-    ensures { IfOk result (λ s. string_bytes s ≡ dividend_line dividend) }
-{
-    format!(in heap; "dividend {dividend}\n")
-}
-
-// The lines of a settlement that is done.
+// The lines of a settlement that is done, behind the text so far.
 fn settled_lines(
-    heap: Global,
     head: String,
     wires: &[bool],
-    count: usize,
     outputs: &[u8],
     dividend: u32,
 ) -> Result<String, AllocError>
-    requires { count ≤ length wires.now }
-    ensures { IfOk result (λ t. string_bytes t ≡ string_bytes head ++ (wire_lines (λ w. slice_index_or wires.now w false) count ++ (out_line (λ k. slice_index outputs.now k) (length outputs.now) ++ dividend_line dividend))) }
+    ensures { IfOk result (λ t. string_bytes t ≡ string_bytes head ++ (wire_lines (λ w. slice_index_or wires.now w false) (length wires.now) ++ (out_line (λ k. slice_index outputs.now k) (length outputs.now) ++ dividend_line dividend))) }
 {
     let mut text = head;
-    add_wires(heap, &mut text, wires, count)?;
-    add_outputs(heap, &mut text, outputs)?;
-    let line = dividend_text(heap, dividend)?;
-    text.push_str(line.as_str())?;
+    add_wires(&mut text, wires)?;
+    add_outputs(&mut text, outputs)?;
+    writeln!(text, "dividend {dividend}")?;
     Ok(text)
 }
 
@@ -117,9 +87,9 @@ pub fn settle_text(
 {
     let mut wires = [false; 1024];
     let mut outputs = [0u8; 16];
-    let head = tickets(heap, first, second)?;
+    let head = format!(in heap; "tickets {first} {second}\n")?;
     match joint_dividend(circuit, first, second, &mut wires, &mut outputs) {
-        Ok((count, dividend)) => settled_lines(heap, head, &wires, count, &outputs, dividend),
+        Ok((count, dividend)) => settled_lines(head, &wires[0..count], &outputs, dividend),
         Err(why) => refused(heap, why),
     }
 }

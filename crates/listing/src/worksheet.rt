@@ -1,5 +1,5 @@
 // The worksheet: the plain work of a circuit, wire by wire.
-ghost use Rattle.std.specs.Prelude.{◌≡◌, ℕ, ◌≤◌, false, ◌++◌, length, IfOk, Some, string_bytes, MatchResult, slice_index, slice_index_or};
+ghost use Rattle.std.specs.Prelude.{◌≡◌, false, ◌++◌, length, IfOk, Some, string_bytes, MatchResult, slice_index, slice_index_or};
 ghost use Rattle.listing.specs.Lines.{wire_lines, out_line};
 ghost use Rattle.circuit.specs.Header.{words_in};
 ghost use Rattle.listing.specs.Worksheet.{input_refusal, worksheet_refusal, worksheet_text};
@@ -54,26 +54,24 @@ pub fn cut_input(input: &[u8]) -> Result<Input<'_>, Refusal>
 
 // Evaluates an input; answers how many wires and outputs there are.
 fn work(input: &[u8], wires: &mut [bool], outputs: &mut [u8]) -> Result<(usize, usize), Refusal>
-    requires { (length wires.old ≡ 1024) × (length outputs.old ≡ 256) }
+    requires wires { length wires.old ≡ 1024 }
+    requires outputs { length outputs.old ≡ 256 }
     ensures { MatchResult result (λ v. Worked input.now v.0 v.1 wires.new outputs.new) (λ why. worksheet_refusal input.now ≡ Some why) }
 {
     let p = cut_input(input)?;
     let c = read(p.circuit)?;
     let count = usize::from(p.sizes.outputs);
-    match plain(p.circuit, p.bits, wires, &mut outputs[0..count]) {
-        Ok(()) => Ok((usize::from(c.wires), count)),
-        Err(why) => Err(why),
-    }
+    plain(p.circuit, p.bits, wires, &mut outputs[0..count])?;
+    Ok((usize::from(c.wires), count))
 }
 
 // The lines of work that is done.
-fn listing(heap: Global, wires: &[bool], count: usize, outputs: &[u8]) -> Result<String, AllocError>
-    requires { count ≤ length wires.now }
-    ensures { IfOk result (λ t. string_bytes t ≡ wire_lines (λ w. slice_index_or wires.now w false) count ++ out_line (λ k. slice_index outputs.now k) (length outputs.now)) }
+fn listing(heap: Global, wires: &[bool], outputs: &[u8]) -> Result<String, AllocError>
+    ensures { IfOk result (λ t. string_bytes t ≡ wire_lines (λ w. slice_index_or wires.now w false) (length wires.now) ++ out_line (λ k. slice_index outputs.now k) (length outputs.now)) }
 {
     let mut text = String::new(heap);
-    add_wires(heap, &mut text, wires, count)?;
-    add_outputs(heap, &mut text, outputs)?;
+    add_wires(&mut text, wires)?;
+    add_outputs(&mut text, outputs)?;
     Ok(text)
 }
 
@@ -84,7 +82,7 @@ pub fn worksheet_text(heap: Global, input: &[u8]) -> Result<String, AllocError>
     let mut wires = [false; 1024];
     let mut outputs = [0u8; 256];
     match work(input, &mut wires, &mut outputs) {
-        Ok((count, outs)) => listing(heap, &wires, count, &outputs[0..outs]),
+        Ok((count, outs)) => listing(heap, &wires[0..count], &outputs[0..outs]),
         Err(why) => refused(heap, why),
     }
 }

@@ -1,3 +1,2 @@
 pub mod Starting
-pub mod Blanks
 pub mod Copying

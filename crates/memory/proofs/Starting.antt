@@ -35,10 +35,10 @@ module _ {T : Type 0} where
   }
 
   -- as `join_wires` leaves them: the first t cleared (e is t in another width)
-  pub join_zeros : (t e : ℕ) (z : T) (old ys : List T) → e ≡ t → t ≤ length old → ys ≡ replicate (length (take (e - 0) old)) z → Filled t (λ _. z) old (put_mid 0 (e - 0) old ys)
+  pub join_zeros : (t e : ℕ) (z : T) (old ys : List T) → e ≡ t → t ≤ length old → ys ≡ replicate (length (take e old)) z → Filled t (λ _. z) old (put_mid 0 e old ys)
   join_zeros t e z old ys p room h =
-      let n = length-take-le (e - 0) old (omega arith) in
-      zeros_first t z old _ (put_zeros 0 t (e - 0) (length (take (e - 0) old)) z old ys (omega arith) (omega arith) (omega arith) h)
+      let n = length-take-le e old (omega arith) in
+      zeros_first t z old _ (put_zeros 0 t e (length (take e old)) z old ys (omega arith) (omega arith) (omega arith) h)
 
   -- as `open_wires` leaves them: those from i up to t cleared, and then the first i made
   pub open_zeros : (i t a e : ℕ) (f : ℕ → T) (z : T) (old ys mid new : List T) → a ≡ i → e ≡ t → i ≤ t → t ≤ length old → ys ≡ replicate (length (take (e - a) (drop a old))) z → mid ≡ put_mid a (e - a) old ys

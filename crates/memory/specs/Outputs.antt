@@ -15,5 +15,8 @@ module _ {L : Type 0} (K : Kind L) (wires : List L) (outputs : List ℕ) where
   colours_of n = listed n colour_at
 
   -- the label's colour ⊕ the byte that came for it
+  abbrev pub decoded_at : List ℕ → ℕ → ℕ
+  decoded_at colours o = digit (differs (K.colour (places K wires (word_at outputs o))) (slice_index colours o == 1))
+
   abbrev pub decoded_of : List ℕ → ℕ → List ℕ
-  decoded_of colours n = listed n (λ o. digit (differs (K.colour (places K wires (word_at outputs o))) (slice_index colours o == 1)))
+  decoded_of colours n = listed n (decoded_at colours)

@@ -1,7 +1,7 @@
 -- Seed bytes. Assumes nothing.
-use Rattle.std.specs.Prelude.{ℕ, Bool, true, ◌&&◌, List, [], ◌∷◌, ◌==◌}
+use Rattle.std.specs.Prelude.{ℕ, Bool, List, ◌==◌}
+use Rattle.std.specs.List.{list_all}
 
 -- every byte is zero
 abbrev pub blank : List ℕ → Bool
-blank [] = true
-blank (b ∷ bytes) = b == 0 && blank bytes
+blank bytes = list_all (λ b. b == 0) bytes

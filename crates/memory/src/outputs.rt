@@ -17,13 +17,6 @@ pub fn label_at<L: Label>(wires: &[L], w: usize) -> L
     wires[w]
 }
 
-// A bit as a byte.
-fn bit_byte(bit: bool) -> u8
-    ensures { result ≡ digit bit }
-{
-    if bit { 1 } else { 0 }
-}
-
 // The colour of the label on output o's wire.
 fn output_colour<L: Label>(wires: &[L], list: &[u8], o: usize) -> bool
     requires there { o < length list.now / 2 }
@@ -39,8 +32,8 @@ pub fn write_colours<L: Label>(wires: &[L], list: &[u8], colours: &mut [u8])
     requires order { all_below (word_at list.now) (length colours.old) (length wires.now) ≡ true }
     ensures { colours.new ≡ colours_of L.kind wires.now list.now (length colours.old) }
 {
-    for o in 0..colours.len() {
-        colours[o] = bit_byte(output_colour(wires, list, o));
+    for (o, colour) in colours.iter_mut().enumerate() {
+        *colour = u8::from(output_colour(wires, list, o));
     }
 }
 
@@ -48,16 +41,17 @@ pub fn write_colours<L: Label>(wires: &[L], list: &[u8], colours: &mut [u8])
 fn decoded_bit(colour: bool, byte: u8) -> u8
     ensures { result ≡ digit (differs colour (byte == 1)) }
 {
-    bit_byte(colour ^ (byte == 1))
+    u8::from(colour ^ (byte == 1))
 }
 
 // Writes each output's bit: its label's colour ⊕ the byte that came for it.
 pub fn write_outputs<L: Label>(wires: &[L], list: &[u8], colours: &[u8], outputs: &mut [u8])
-    requires long { (length list.now ≡ 2 * length outputs.old) × (length colours.now ≡ length outputs.old) }
+    requires long { length list.now ≡ 2 * length outputs.old }
+    requires coloured { length colours.now ≡ length outputs.old }
     requires order { all_below (word_at list.now) (length outputs.old) (length wires.now) ≡ true }
     ensures { outputs.new ≡ decoded_of L.kind wires.now list.now colours.now (length outputs.old) }
 {
-    for o in 0..outputs.len() {
-        outputs[o] = decoded_bit(output_colour(wires, list, o), colours[o]);
+    for (o, output) in outputs.iter_mut().enumerate() {
+        *output = decoded_bit(output_colour(wires, list, o), colours[o]);
     }
 }

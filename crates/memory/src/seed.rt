@@ -2,13 +2,6 @@
 ghost use Rattle.std.specs.Prelude.{◌≡◌, length, replicate};
 ghost use Rattle.memory.specs.Seed.{blank};
 
-// Zeroes the bytes.
-fn clear_bytes(bytes: &mut [u8])
-    ensures { bytes.new ≡ replicate (length bytes.old) 0 }
-{
-    bytes.fill(0);
-}
-
 // Holds lent seed bytes, and clears them when it goes.
 pub struct SeedGuard<'a>(&'a mut [u8]);
 
@@ -16,7 +9,7 @@ impl Drop for SeedGuard<'_> {
     fn drop(self)
         ensures { self.exit.0.now ≡ replicate (length self.entry.0.now) 0 }
     {
-        clear_bytes(self.0);
+        self.0.fill(0);
         let SeedGuard(_) = self;
     }
 }
@@ -40,10 +33,5 @@ impl<'a> SeedGuard<'a> {
 pub fn all_zero(bytes: &[u8]) -> bool
     ensures { result ≡ blank bytes.now }
 {
-    for b in bytes {
-        if *b != 0 {
-            return false;
-        }
-    }
-    true
+    bytes.iter().all(|byte| *byte == 0)
 }

@@ -11,9 +11,10 @@ use hashes::hash::LabelHash;
 use labels::kind::Label;
 use wires::Wires;
 
-// Makes each input's wire: its zero label.
+// Makes each input's wire: its zero label. By number: input i has draw 1 + i.
 fn draw_inputs<L: Label, H: LabelHash<L>>(h: &mut H, seed: L, wires: &mut Wires<L>, inputs: u16)
-    requires { (wires.old.made ≡ 0) × (inputs ≤ length wires.old.values.now) }
+    requires unmade { wires.old.made ≡ 0 }
+    requires room { inputs ≤ length wires.old.values.now }
     ensures filled { Filled inputs (input_zero (H.means h.old) seed) wires.old.values.now wires.new.values.now }
     ensures same { wires.new.values.ghost_name ≡ wires.old.values.ghost_name }
     ensures kept { H.means h.new ≡ H.means h.old }
@@ -33,7 +34,8 @@ pub fn open_wires<L: Label, H: LabelHash<L>>(
     inputs: u16,
     total: u16,
 )
-    requires { (inputs ≤ total) × (total ≤ length wires.old) }
+    requires within { inputs ≤ total }
+    requires room { total ≤ length wires.old }
     ensures filled { Filled total (opened_wire L.kind (H.means h.old) seed inputs) wires.old wires.new }
     ensures kept { H.means h.new ≡ H.means h.old }
     ensures count { H.calls h.new ≡ counted (H.calls h.old) inputs }
@@ -48,5 +50,5 @@ pub fn join_wires<L: Label>(wires: &mut [L], total: u16)
     requires { total ≤ length wires.old }
     ensures { Filled total (λ _. L.kind.zero) wires.old wires.new }
 {
-    clear(&mut wires[0..usize::from(total)]);
+    clear(&mut wires[..usize::from(total)]);
 }

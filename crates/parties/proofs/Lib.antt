@@ -1,5 +1,4 @@
 pub mod Decided
 pub mod Early
 pub mod Marking
-pub mod Owned
 pub mod Stepping

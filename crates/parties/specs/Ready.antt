@@ -1,30 +1,17 @@
 -- What a decision hands to the action behind it. Assumes nothing.
-use Rattle.std.specs.Prelude.{◌≡◌, ℕ, ◌+◌, ◌*◌, ◌^◌, ◌<◌, ◌≤◌, true, List, length, None}
+use Rattle.std.specs.Prelude.{◌≡◌, ℕ, ◌+◌, ◌*◌, ◌^◌, ◌<◌, ◌≤◌, true, List, length}
 use Rattle.labels.specs.Kind.{Kind}
 use Rattle.circuit.specs.Words.{word_at, all_below}
 use Rattle.circuit.specs.Parts.{Parts, parts_of}
 use Rattle.circuit.specs.Gates.{form_of, made_before, wires_in}
+use Rattle.circuit.specs.Check.{most_wires}
 use Rattle.circuit.specs.Material.{gate_bits, gate_bytes}
-use Rattle.circuit.specs.Check.{gates_refusal, most_wires}
-use Rattle.circuit.specs.Lent.{Whole}
-use Rattle.circuit.specs.declared.sizes.Sizes.{Sizes}
 use Rattle.parties.specs.declared.side.Side.{Side}
-
--- a circuit that a side can begin with on so many wires: its sizes and its own wires
-pub record Sized (bytes : List ℕ) (sizes : Sizes) (w wires : ℕ) : Type 0 where
-  pub sizes_are : sizes ≡ (parts_of bytes).sizes
-  pub count : w ≡ wires_in (parts_of bytes)
-  pub inputs_within : sizes.inputs ≤ w
-  pub room : w ≤ wires
-  pub inputs_few : sizes.inputs ≤ 256
-  pub gates_few : sizes.gates ≤ 512
 
 -- the side's next gate can be made on so many wires, with so much scratch and material
 pub record StepReady {L : Type 0} (K : Kind L) (s : Side) (c : Parts) (bits wires scratch material : ℕ) : Type 0 where
   pub there : s.next < c.sizes.gates
   pub few : c.sizes.gates ≤ 512
-  pub whole : Whole c
-  pub passes : gates_refusal c c.sizes.gates ≡ None
   pub same : s.sizes.gates ≡ c.sizes.gates
   pub own : s.wires ≡ wires_in c
   pub made : s.made ≡ made_before c s.next

@@ -1,5 +1,5 @@
 -- What a side keeps of its circuit and of its way through it. Assumes nothing.
-use Rattle.std.specs.Prelude.{ℕ, ◌+◌, ◌*◌, ◌^◌, ◌≤◌, true, false, replicate, slice_set}
+use Rattle.std.specs.Prelude.{ℕ, ◌+◌, ◌^◌, true, false, replicate, slice_set}
 use Rattle.circuit.specs.declared.sizes.Sizes.{Sizes}
 use Rattle.parties.specs.declared.side.Side.{Side}
 
@@ -55,11 +55,3 @@ module _ (s : Side) where
 -- the most bytes that a gate's material has
 abbrev pub most_bytes : ℕ
 most_bytes = 2 ^ 20
-
--- what every call needs of a side, and keeps
-abbrev pub Within : Side → Type 0
-Within s =
-    (s.sizes.inputs ≤ 256)
-    × (s.sizes.gates ≤ 512)
-    × (s.next ≤ s.sizes.gates)
-    × (s.bytes ≤ s.next * most_bytes)

@@ -6,7 +6,7 @@ use circuit::sizes::Sizes;
 
 #[derive(Clone, Copy)]
 pub struct Side {
-    // It has not begun, or is wiped.
+    // It has not begun, or is wiped. A flag: every refusal of a call is told by it, with the sizes beside it still zero.
     pub ended: bool,
     pub sizes: Sizes,
     // All wires of the circuit.
@@ -16,7 +16,7 @@ pub struct Side {
     pub made: usize,
     // The material's bytes so far.
     pub bytes: usize,
-    // The inputs that are encoded or delivered.
+    // The inputs that are encoded or delivered: fixed memory, since a side allocates nothing.
     pub marks: [bool; 256],
 }
 
@@ -51,10 +51,8 @@ impl Side {
             ended: false,
             sizes,
             wires,
-            next: 0,
             made: usize::from(sizes.inputs),
-            bytes: 0,
-            marks: [false; 256],
+            ..Side::new()
         }
     }
 
@@ -68,7 +66,9 @@ impl Side {
 
     // One gate further, with its new wires and its bytes.
     pub fn advance(&mut self, new: usize, bytes: usize)
-        requires { (self.old.next < 512) × ((self.old.made + new < 2 ^ 32) × (self.old.bytes + bytes < 2 ^ 32)) }
+        requires next { self.old.next < 512 }
+        requires made { self.old.made + new < 2 ^ 32 }
+        requires bytes { self.old.bytes + bytes < 2 ^ 32 }
         ensures { self.new ≡ stepped self.old new bytes }
     {
         self.next += 1;

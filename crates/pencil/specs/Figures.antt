@@ -7,7 +7,7 @@ use Rattle.hashes.specs.Draws.{offset, input_zero}
 use Rattle.hashes.specs.PaperHash.{paper_hash}
 use Rattle.gates.specs.Half.{garbled, joined}
 use Rattle.tables.specs.Gate.{drawn, material, zero_labels, evaluated, garbler_calls, evaluator_calls}
-use Rattle.gates.specs.Size.{bits_of}
+use Rattle.material.specs.Size.{bits_of}
 use Rattle.tables.specs.Material.{row_word}
 
 abbrev pub seed : Paper

@@ -1,7 +1,9 @@
 -- Numbers of bits. Assumes nothing.
-use Rattle.std.proofs.Common.{◌≡◌, ℕ, zero, suc, ◌+◌, ◌*◌, ◌^◌, ◌<◌, Bool, refl, ap, ap₂, inl, inr, add-one, arith}
+use Rattle.std.proofs.Common.{◌≡◌, ℕ, zero, suc, ◌+◌, ◌*◌, ◌^◌, ◌%◌, ◌<◌, ◌≤◌, Bool, refl, ap, ap₂, inl, inr, arith}
 use native.Mathlib.Nat.{pow-succ'}
-use Rattle.std.proofs.lemmas.Bool.{cases_Bool}
+use Rattle.std.proofs.Math.Pow.{pow_mono}
+use Rattle.std.proofs.lemmas.Nat.{shl_whole}
+use Rattle.std.proofs.lemmas.Bool.{cases_Bool, cases_order}
 use Rattle.labels.specs.Numbers.{digit, number}
 
 pub number_below : (n : ℕ) (x : ℕ → Bool) → number n x < 2 ^ n
@@ -21,10 +23,11 @@ number_same (suc n) x y e =
     let rest : number n x ≡ number n y = number_same n x y (λ i l. e i (omega arith)) in
     ap₂ (λ (b : Bool) (k : ℕ). digit b * 2 ^ n + k) here rest
 
--- one bit more of a number
-module _ (f : ℕ → Bool) (j row weight : ℕ) (r : row ≡ number j f) (w : weight ≡ 2 ^ j) (l : row < 2 ^ j) where
-  pub weight_more : weight * 2 ≡ 2 ^ (j + 1)
-  weight_more = let p : 2 ^ suc j ≡ 2 * 2 ^ j = pow-succ' 2 j in rw (add-one j) (omega arith)
-
-  pub number_more : (b : Bool) (more : ℕ) → b ≡ f j → more ≡ digit b * weight → row + more ≡ number (j + 1) f
-  number_more b more e m = rw (add-one j) (let d : digit b * weight ≡ digit (f j) * 2 ^ j = cc in omega arith)
+-- a bit moved up to place j, over a number of j bits
+pub shifted_fits : (j row b w : ℕ) → row < 2 ^ j → b ≤ 1 → j < w → row + b * 2 ^ j % 2 ^ w < 2 ^ w
+shifted_fits j row b w r h l =
+    let p : 2 ^ suc j ≡ 2 * 2 ^ j = pow-succ' 2 j in
+    let s : b * 2 ^ j % 2 ^ w ≡ b * 2 ^ j = shl_whole b 1 j w (omega arith) (omega arith) in
+    let m : 2 ^ suc j ≤ 2 ^ w = pow_mono l in
+    let q : b * 2 ^ j ≤ 2 ^ j = elim (cases_order b 0) [ inl z ↦ rw z (omega arith) | inr a ↦ (let o : b ≡ 1 = grind arith in rw o (omega arith)) ] in
+    omega arith

@@ -35,9 +35,10 @@ module _ (bytes bits : List ℕ) (c : Parts) (w : ℕ) (old new : List Bool) (ou
       given o h ∙ ap digit (filled.front (output_of c o) false below)
 
 pub evaluated : (bytes bits : List ℕ) (c : Parts) (w : ℕ) (old new : List Bool) (outs : List ℕ) (n : ℕ) → length outs ≡ n → plain_refusal bytes bits (length old) n ≡ None → Passed bytes c w
-    → Filled (wires_in c) (plain_bit c (bit_in bits)) old new → ((o : ℕ) → o < c.sizes.outputs → get_or outs o 0 ≡ digit (get_or new (output_of c o) false)) → Evaluated bytes bits old new outs
-evaluated bytes bits c w old new outs n e accepted p filled given =
+    → Filled w (plain_bit c (bit_in bits)) old new → ((o : ℕ) → o < c.sizes.outputs → get_or outs o 0 ≡ digit (get_or new (output_of c o) false)) → Evaluated bytes bits old new outs
+evaluated bytes bits c w old new outs n e accepted p made given =
     let same = p.parts in
+    let filled = subst (λ (k : ℕ). Filled k (plain_bit c (bit_in bits)) old new) p.count made in
     record {
       accepted = ap (plain_refusal bytes bits (length old)) e ∙ accepted;
       wires = subst (λ (q : Parts). Filled (wires_in q) (plain_bit q (bit_in bits)) old new) same filled;

@@ -1,6 +1,10 @@
 -- The hash value after blocks of two parts, one after the other. Assumes nothing.
-use Rattle.std.proofs.Common.{◌≡◌, ℕ, zero, suc, ◌+◌, ◌*◌, ◌/◌, ◌%◌, ◌≤◌, List, ◌++◌, length, take, drop, sym, refl, ap, ◌∙◌, ap₂, add-one, arith}
+use Rattle.std.proofs.Common.{◌≡◌, ℕ, zero, suc, ◌+◌, ◌*◌, ◌/◌, ◌%◌, ◌<◌, ◌≤◌, List, [], ◌++◌, length, take, drop, get_or, sym, refl, ap, ◌∙◌, ap₂, add-one, add-zero, arith}
 use Rattle.std.proofs.lemmas.List.{length-append, length-drop, drop-append-le, take-append-le, drop-drop, drop_at, append_assoc}
+use Rattle.std.specs.Int.{w32, from_be_bytes}
+use Rattle.std.specs.Simd.{first_chunks}
+use Rattle.std.proofs.lemmas.Simd.{get_or-chunk}
+use Rattle.sha256.specs.Words.{word_at}
 use Rattle.sha256.specs.declared.state.State.{State}
 use Rattle.sha256.specs.Constants.{initial}
 use Rattle.sha256.specs.Compression.{compressed}
@@ -15,6 +19,31 @@ hashed_suc s bytes i = refl
 
 pub hashed_more : (s : State) (bytes : List ℕ) (i : ℕ) → hashed s bytes (i + 1) ≡ compressed (hashed s bytes i) (block bytes i)
 hashed_more s bytes i = ap (λ (n : ℕ). hashed s bytes n) (add-one i) ∙ hashed_suc s bytes i
+
+-- block i, as a piece of the whole
+pub block_at : (n k i : ℕ) (xs d : List ℕ) → i < k → get_or (first_chunks n k xs) i d ≡ take n (drop (n * i) xs)
+block_at n zero i xs d h = absurd (omega arith)
+block_at n (suc k) zero xs d h = let e : 0 ≡ n * 0 = omega arith in ap (λ (j : ℕ). take n (drop j xs)) e
+block_at n (suc k) (suc i) xs d h =
+    let e : n + n * i ≡ n * suc i = omega arith in
+    block_at n k i (drop n xs) d (omega arith) ∙ ap (λ (l : List ℕ). take n l) (drop-drop (n * i) n xs ∙ ap (λ (j : ℕ). drop j xs) e)
+
+-- the word of four bytes read as word t
+pub word_read : (bytes : List ℕ) (t : ℕ) → from_be_bytes w32 (take 4 (drop (4 * t) bytes)) ≡ word_at bytes t
+word_read bytes t =
+    let at : (j : ℕ) → j < 4 → get_or (take 4 (drop (4 * t) bytes)) j 0 ≡ get_or bytes (4 * t + j) 0 = λ j h. get_or-chunk (4 * t) 4 bytes j 0 h in
+    let a = at 0 (omega arith) ∙ ap (λ (i : ℕ). get_or bytes i 0) (add-zero (4 * t)) in
+    let b = at 1 (omega arith) in
+    let c = at 2 (omega arith) in
+    let d = at 3 (omega arith) in
+    simp (a, b, c, d)
+
+-- one block more
+pub block_absorbed : (s x : State) (bytes : List ℕ) (blocks : List (List ℕ)) (i : ℕ) → blocks ≡ first_chunks 64 (length bytes / 64) bytes → i < length bytes / 64
+    → x ≡ hashed s bytes i → compressed x (get_or blocks i []) ≡ hashed s bytes (i + 1)
+block_absorbed s x bytes blocks i e h p =
+    let part = ap (λ (l : List (List ℕ)). get_or l i []) e ∙ block_at 64 (length bytes / 64) i bytes [] h in
+    ap₂ compressed p part ∙ sym (hashed_more s bytes i)
 
 block_front : (xs ys : List ℕ) (i : ℕ) → 64 * suc i ≤ length xs → block (xs ++ ys) i ≡ block xs i
 block_front xs ys i h =

@@ -1,6 +1,7 @@
 -- One turn of the schedule's loop, and one of the rounds'. Assumes nothing.
-use Rattle.std.proofs.Common.{◌≡◌, ℕ, suc, ◌+◌, ◌-◌, ◌<◌, ◌≤◌, List, [], ◌∷◌, ◌++◌, length, get_or, take, set, sym, refl, ap, ◌∙◌, arith}
+use Rattle.std.proofs.Common.{◌≡◌, ℕ, suc, ◌+◌, ◌-◌, ◌*◌, ◌<◌, ◌≤◌, List, [], ◌∷◌, ◌++◌, length, get_or, take, drop, set, sym, refl, ap, ap₂, ◌∙◌, arith}
 use Rattle.std.proofs.lemmas.List.{take_more_set, length-take-le, get_or-take}
+use Rattle.std.proofs.lemmas.Simd.{get_or-chunk}
 use Rattle.sha256.specs.declared.state.State.{State}
 use Rattle.sha256.specs.Schedule.{word, extended}
 use Rattle.sha256.specs.Compression.{round, after}
@@ -48,3 +49,36 @@ after_suc s ws t = refl
 pub after_more : (s x r : State) (ws : List ℕ) (t n : ℕ) → x ≡ after s ws t → r ≡ round x (get_or constants t 0) (get_or ws t 0) → n ≡ suc t → r ≡ after s ws n
 after_more s x r ws t n p q e =
     q ∙ ap (λ (y : State). round y (get_or constants t 0) (get_or ws t 0)) p ∙ sym (after_suc s ws t) ∙ ap (λ (k : ℕ). after s ws k) (sym e)
+
+-- eight rounds more, with eight of the constants and eight of the words
+module _ (start : State) (ws ks vs : List ℕ) (i : ℕ) (k : ks ≡ take 8 (drop (8 * i) constants)) (v : vs ≡ take 8 (drop (8 * i) ws)) where
+  turn_more : (j : ℕ) (x r : State) → j < 8 → x ≡ after start ws (8 * i + j) → r ≡ round x (get_or ks j 0) (get_or vs j 0) → r ≡ after start ws (8 * i + (j + 1))
+  turn_more j x r h p q =
+      let a = ap (λ (l : List ℕ). get_or l j 0) k ∙ get_or-chunk (8 * i) 8 constants j 0 h in
+      let b = ap (λ (l : List ℕ). get_or l j 0) v ∙ get_or-chunk (8 * i) 8 ws j 0 h in
+      after_more start x r ws (8 * i + j) _ p (q ∙ ap₂ (λ (m n : ℕ). round x m n) a b) (omega arith)
+
+  pub eight_more : (s0 s1 s2 s3 s4 s5 s6 s7 s8 : State) (n : ℕ) → s0 ≡ after start ws (8 * i)
+      → s1 ≡ round s0 (get_or ks 0 0) (get_or vs 0 0)
+      → s2 ≡ round s1 (get_or ks 1 0) (get_or vs 1 0)
+      → s3 ≡ round s2 (get_or ks 2 0) (get_or vs 2 0)
+      → s4 ≡ round s3 (get_or ks 3 0) (get_or vs 3 0)
+      → s5 ≡ round s4 (get_or ks 4 0) (get_or vs 4 0)
+      → s6 ≡ round s5 (get_or ks 5 0) (get_or vs 5 0)
+      → s7 ≡ round s6 (get_or ks 6 0) (get_or vs 6 0)
+      → s8 ≡ round s7 (get_or ks 7 0) (get_or vs 7 0)
+      → n ≡ i + 1
+      → s8 ≡ after start ws (8 * n)
+  eight_more s0 s1 s2 s3 s4 s5 s6 s7 s8 n p q0 q1 q2 q3 q4 q5 q6 q7 e =
+      let none : 8 * i ≡ 8 * i + 0 = omega arith in
+      let all : 8 * i + 8 ≡ 8 * n = omega arith in
+      let e0 = p ∙ ap (λ (t : ℕ). after start ws t) none in
+      let e1 = turn_more 0 s0 s1 (omega arith) e0 q0 in
+      let e2 = turn_more 1 s1 s2 (omega arith) e1 q1 in
+      let e3 = turn_more 2 s2 s3 (omega arith) e2 q2 in
+      let e4 = turn_more 3 s3 s4 (omega arith) e3 q3 in
+      let e5 = turn_more 4 s4 s5 (omega arith) e4 q4 in
+      let e6 = turn_more 5 s5 s6 (omega arith) e5 q5 in
+      let e7 = turn_more 6 s6 s7 (omega arith) e6 q6 in
+      let e8 = turn_more 7 s7 s8 (omega arith) e7 q7 in
+      e8 ∙ ap (λ (t : ℕ). after start ws t) all

@@ -1,4 +1,4 @@
-// The six functions on words of SHA-256.
+// The six functions on words of SHA-256. One for each name of the standard: with a pair's rotations as const parameters each caller would write the numbers.
 ghost use Rattle.std.specs.Prelude.{◌≡◌};
 ghost use Rattle.sha256.specs.Functions.{Ch, Maj, Σ0, Σ1, σ0, σ1};
 

@@ -8,63 +8,47 @@ mod schedule;
 mod state;
 
 ghost use Rattle.std.specs.Prelude.{◌≡◌, ◌+◌, ◌/◌, ◌%◌, ◌<◌, ◌++◌, length, replicate};
-ghost use Rattle.sha256.specs.Constants.{initial};
 ghost use Rattle.sha256.specs.Digest.{digest, hashed, output};
 ghost use Rattle.sha256.specs.Padding.{padding, zeros};
 ghost use Rattle.sha256.specs.Filling.{PaddingFills};
 ghost use Rattle.sha256.specs.Vector.{DigestOfAbc};
-ghost use Rattle.sha256.specs.Words.{four};
 
 use compression::compress;
 use padding::{pad, padded_length};
 use state::State;
 
 // The hash value before the first block.
-fn initial_state() -> State
-    ensures { result ≡ initial }
-{
-    State {
-        a: 0x6a09e667,
-        b: 0xbb67ae85,
-        c: 0x3c6ef372,
-        d: 0xa54ff53a,
-        e: 0x510e527f,
-        f: 0x9b05688c,
-        g: 0x1f83d9ab,
-        h: 0x5be0cd19,
-    }
-}
+const INITIAL: State = State {
+    a: 0x6a09e667,
+    b: 0xbb67ae85,
+    c: 0x3c6ef372,
+    d: 0xa54ff53a,
+    e: 0x510e527f,
+    f: 0x9b05688c,
+    g: 0x1f83d9ab,
+    h: 0x5be0cd19,
+};
 
 // The hash value after all whole blocks of the bytes.
+#[tactic(auto, using(crate::proofs::Blocks::block_absorbed))]
 fn absorb(start: State, bytes: &[u8]) -> State
     ensures { result ≡ hashed start bytes.now (length bytes.now / 64) }
 {
     let mut state = start;
-    for i in 0..bytes.len() / 64 {
-        state = compress(state, &bytes[64 * i..64 * i + 64]);
+    let (blocks, _) = bytes.as_chunks::<64>();
+    for block in blocks {
+        state = compress(state, block);
     }
     state
 }
 
-// Four words, the highest byte of each first.
-fn four_words(a: u32, b: u32, c: u32, d: u32) -> [u8; 16]
-    ensures { result ≡ four a ++ (four b ++ (four c ++ four d)) }
-{
-    let mut out = [0; 16];
-    out[0..4].copy_from_slice(&a.to_be_bytes());
-    out[4..8].copy_from_slice(&b.to_be_bytes());
-    out[8..12].copy_from_slice(&c.to_be_bytes());
-    out[12..16].copy_from_slice(&d.to_be_bytes());
-    out
-}
-
-// The 32 bytes of a hash value.
+// The 32 bytes of a hash value: each word's highest byte first.
 fn write(s: State) -> [u8; 32]
     ensures { result ≡ output s }
 {
+    let words = [s.a, s.b, s.c, s.d, s.e, s.f, s.g, s.h];
     let mut out = [0; 32];
-    out[0..16].copy_from_slice(&four_words(s.a, s.b, s.c, s.d));
-    out[16..32].copy_from_slice(&four_words(s.e, s.f, s.g, s.h));
+    out.copy_from_slice(words.map(u32::to_be_bytes).as_flattened());
     out
 }
 
@@ -86,7 +70,7 @@ fn digest_of_parts(body: &[u8], rest: &[u8], total: usize) -> [u8; 32]
     requires all { length body.now + length rest.now ≡ total }
     ensures { result ≡ digest (body.now ++ rest.now) }
 {
-    let state = absorb(initial_state(), body);
+    let state = absorb(INITIAL, body);
     let mut last = [0; 128];
     let end = padded_length(rest.len());
     write(finish(state, &mut last[..end], rest, total))
@@ -101,15 +85,11 @@ pub fn sha256(message: &[u8]) -> [u8; 32]
 }
 
 // The padding fills whole blocks, and with the least number of zeros.
-pub fn padding_stands() -> u8
+pub fn padding_stands()
     ensures { PaddingFills }
-{
-    0
-}
+{}
 
 // The definition gives the published digest of "abc".
-pub fn vector_stands() -> u8
+pub fn vector_stands()
     ensures { DigestOfAbc }
-{
-    0
-}
+{}

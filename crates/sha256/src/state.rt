@@ -1,5 +1,5 @@
 // A hash value, and the eight working variables of the compression.
-#[derive(Clone, Copy)]
+#[derive(Clone, Copy, PartialEq, Eq, Debug)]
 pub struct State {
     pub a: u32,
     pub b: u32,

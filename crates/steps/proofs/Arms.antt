@@ -1,5 +1,5 @@
 -- What the definitions of a gate give at each form, in the words of the code's gate. Assumes nothing.
-use Rattle.std.proofs.Common.{◌≡◌, ℕ, suc, ◌+◌, ◌*◌, ◌/◌, ◌^◌, ◌<◌, ◌≤◌, true, false, eqb, leb, List, [], ◌++◌, length, get_or, None, sym, refl, ap, ◌∙◌, ap₂, arith, Bor}
+use Rattle.std.proofs.Common.{◌≡◌, ℕ, suc, ◌+◌, ◌*◌, ◌/◌, ◌^◌, ◌<◌, ◌≤◌, true, false, eqb, leb, List, [], ◌++◌, length, get_or, sym, refl, ap, ◌∙◌, ap₂, arith, Bor}
 use Rattle.std.proofs.lemmas.Bool.{eq-eqb, ne_eqb, le-leb}
 use Rattle.std.proofs.lemmas.Bool.Decides.{nat_tests}
 use Rattle.labels.specs.Kind.{Kind}
@@ -7,18 +7,18 @@ use Rattle.wires.specs.Wires.{Grown}
 use Rattle.circuit.specs.Words.{word_at, all_below, part}
 use Rattle.circuit.specs.Parts.{Parts}
 use Rattle.circuit.specs.Forms.{is_table, fan_in, fan_out, reads}
-use Rattle.circuit.specs.Gates.{form_of, operand_of, rows_from, made_before, wires_in}
+use Rattle.circuit.specs.Gates.{form_of, operand_of, rows_from, made_before}
 use Rattle.circuit.specs.Material.{gate_bytes}
-use Rattle.circuit.specs.Check.{gates_refusal}
-use Rattle.circuit.specs.Lent.{GateAt, new_in, operands_in}
+use Rattle.circuit.specs.Lent.{parts_in, GateAt, new_in, operands_in}
 use Rattle.circuit.specs.declared.gate.Gate.{Gate}
+use Rattle.circuit.specs.declared.passed.Circuit.{Circuit}
 use Rattle.circuit.specs.declared.gate.Gate.TheVariants.{Xor, And, Table}
 use Rattle.circuit.proofs.Checks.{each_passes, gate_in_order}
 use Rattle.circuit.proofs.GateParts.{table_high, gate_operand, gate_order, made_after, made_within}
 use Rattle.gates.specs.Half.{garbled, joined}
 use Rattle.gates.specs.Bytes.{part as bytes_at}
-use Rattle.gates.specs.Size.{bytes_of}
-use Rattle.gates.proofs.Sizes.{whole_bytes}
+use Rattle.material.specs.Size.{bytes_of}
+use Rattle.material.proofs.Sizes.{whole_bytes}
 use Rattle.tables.specs.Gate.{material_for, zeros_for, evaluated, garbler_calls, evaluator_calls}
 use Rattle.tables.specs.Material.{listed}
 use Rattle.tables.specs.Table.{places}
@@ -54,23 +54,28 @@ grown_as n n' m m' f h old new en em e a = record {
   past = λ w d l. a.past w d (omega arith);
 }
 
-module _ (c : Parts) (g : ℕ) where
-  -- a gate of a circuit that passed reads wires that are made, and there is room for its own
-  pub reads_made : (gate : Gate) (made : ℕ) → GateAt c g gate → g < c.sizes.gates → gates_refusal c c.sizes.gates ≡ None → made ≡ made_before c g
-      → all_below (word_at (operands_in gate)) (length (operands_in gate) / 2) made ≡ true
-  reads_made gate made at there pass em =
-      gate_order c g gate made at ∙ ap (λ (m : ℕ). all_below (operand_of c g) (reads (form_of c g)) m) em ∙ gate_in_order c g (each_passes c c.sizes.gates pass g there)
+-- a gate of a circuit that passed reads wires that are made, and there is room for its own
+module _ (circuit : Circuit) (g made : ℕ) (there : g < circuit.arrays.sizes.gates) (before : made ≡ made_before (parts_in circuit.arrays) g) where
+  abbrev c : Parts
+  c = parts_in circuit.arrays
 
-  pub room_for : (gate : Gate) (made size : ℕ) → GateAt c g gate → g < c.sizes.gates → made ≡ made_before c g → wires_in c ≤ size → made + new_in gate ≤ size
-  room_for gate made size at there em room =
-      let after = made_after c g gate made (new_in gate) at em refl in
+  pub reads_made : (gate : Gate) → GateAt c g gate → all_below (word_at (operands_in gate)) (length (operands_in gate) / 2) made ≡ true
+  reads_made gate at =
+      gate_order c g gate made at ∙ ap (λ (m : ℕ). all_below (operand_of c g) (reads (form_of c g)) m) before
+      ∙ gate_in_order c g (each_passes c c.sizes.gates circuit.gates_pass g there)
+
+  pub room_for : (gate : Gate) (size : ℕ) → GateAt c g gate → circuit.wires ≤ size → made + new_in gate ≤ size
+  room_for gate size at room =
+      let after = made_after c g gate made (new_in gate) at before refl in
       let most = made_within c (suc g) there in
+      let counted = circuit.counted in
       omega arith
 
-  -- XOR and AND have two operands
-  pub two_operands : (ops : Bor (List ℕ)) (made : ℕ) → length ops.now ≡ 4 → all_below (word_at ops.now) (length ops.now / 2) made ≡ true → all_below (word_at ops.now) 2 made ≡ true
-  two_operands ops made l e = let h : 2 ≡ length ops.now / 2 = omega arith in ap (λ (k : ℕ). all_below (word_at ops.now) k made) h ∙ e
+-- XOR and AND have two operands
+pub two_operands : (ops : Bor (List ℕ)) (made : ℕ) → length ops.now ≡ 4 → all_below (word_at ops.now) (length ops.now / 2) made ≡ true → all_below (word_at ops.now) 2 made ≡ true
+two_operands ops made l e = let h : 2 ≡ length ops.now / 2 = omega arith in ap (λ (k : ℕ). all_below (word_at ops.now) k made) h ∙ e
 
+module _ (c : Parts) (g : ℕ) where
   module _ {L : Type 0} (K : Kind L) (v : ℕ → L) (F : L → ℕ → L) where
     module _ (ops : Bor (List ℕ)) (at : GateAt c g (Xor ops)) where
       first : v (word_at ops.now 0) ≡ v (operand_of c g 0)
@@ -182,17 +187,7 @@ module _ (c : Parts) (g : ℕ) where
   pub xor_bytes : (w : ℕ) (ops : Bor (List ℕ)) → GateAt c g (Xor ops) → gate_bytes (8 * w) (form_of c g) ≡ 0
   xor_bytes w ops at = ap (λ (b : ℕ). (b + 7) / 8) (at_xor (form_of c g) 0 (2 * (8 * w)) _ at.0)
 
-  pub and_bytes : (w : ℕ) (ops : Bor (List ℕ)) → GateAt c g (And ops) → gate_bytes (8 * w) (form_of c g) ≡ 2 * w
-  and_bytes w ops at = ap (λ (b : ℕ). (b + 7) / 8) (at_and (form_of c g) 0 (2 * (8 * w)) _ at.0) ∙ omega arith
-
   pub table_bytes : (w n m : ℕ) (ops rows : Bor (List ℕ)) → GateAt c g (Table n m ops rows) → gate_bytes (8 * w) (form_of c g) ≡ bytes_of w n m
   table_bytes w n m ops rows at =
       ap (λ (b : ℕ). (b + 7) / 8) (at_table (form_of c g) 0 (2 * (8 * w)) _ at.0)
       ∙ sym (whole_bytes w (fan_in (form_of c g)) (fan_out (form_of c g))) ∙ ap₂ (bytes_of w) (sym at.1) (sym at.2)
-
-  pub table_least : (n m : ℕ) (ops rows : Bor (List ℕ)) → GateAt c g (Table n m ops rows) → 1 ≤ n
-  table_least n m ops rows at =
-      let t : is_table (form_of c g) ≡ true = at.0 in
-      let f : 1 ≤ fan_in (form_of c g) = grind (arith, nat_tests) in
-      let e = at.1 in
-      omega arith

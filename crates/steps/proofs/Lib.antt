@@ -1,2 +1,3 @@
 pub mod Arms
 pub mod Laid
+pub mod Lent

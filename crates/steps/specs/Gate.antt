@@ -1,7 +1,7 @@
 -- One gate of a circuit on labels: what the garbler and the evaluator make of what the wires carry. Assumes nothing.
-use Rattle.std.specs.Prelude.{ℕ, ◌^◌, cond, List, [], ◌∷◌, ◌++◌, ◌==◌}
+use Rattle.std.specs.Prelude.{ℕ, ◌/◌, ◌^◌, cond, List, [], ◌∷◌, ◌++◌, length, ◌==◌}
 use Rattle.labels.specs.Kind.{Kind}
-use Rattle.circuit.specs.Words.{part}
+use Rattle.circuit.specs.Words.{part, word_at}
 use Rattle.circuit.specs.Parts.{Parts}
 use Rattle.circuit.specs.Forms.{fan_in, fan_out, reads}
 use Rattle.circuit.specs.Gates.{form_of, operand_of, rows_from}
@@ -14,6 +14,13 @@ use Rattle.tables.specs.Table.{places}
 -- what a gate has by its form: XOR, AND or a table
 abbrev pub by_form : {X : Type 0} → ℕ → X → X → X → X
 by_form form xor and table = cond (form == 0) xor (cond (form == 1) and table)
+
+-- the label on the wire of operand j, and those of all operands, from the labels on the wires
+abbrev pub label_on : {L : Type 0} → Kind L → List L → List ℕ → ℕ → L
+label_on K wires operands j = places K wires (word_at operands j)
+
+abbrev pub labels_on : {L : Type 0} → Kind L → List L → List ℕ → List L
+labels_on K wires operands = listed (length operands / 2) (label_on K wires operands)
 
 module _ (c : Parts) (g : ℕ) where
   -- the bytes of a table's rows

@@ -1,25 +1,23 @@
 // The evaluator's step at one gate of a circuit.
-ghost use Rattle.std.specs.Prelude.{◌≡◌, suc, ◌+◌, ◌*◌, ◌/◌, ◌<◌, ◌≤◌, true, length, replicate, None};
+ghost use Rattle.std.specs.Prelude.{◌≡◌, suc, ◌+◌, ◌*◌, ◌/◌, ◌<◌, ◌≤◌, true, length, replicate};
 ghost use Rattle.hashes.specs.Count.{counted};
 ghost use Rattle.wires.specs.Wires.{Grown};
 ghost use Rattle.circuit.specs.Words.{word_at, all_below};
 ghost use Rattle.circuit.specs.Forms.{makes};
-ghost use Rattle.circuit.specs.Gates.{form_of, made_before, wires_in};
+ghost use Rattle.circuit.specs.Gates.{form_of, made_before};
 ghost use Rattle.circuit.specs.Material.{gate_bytes};
-ghost use Rattle.circuit.specs.Check.{gates_refusal};
-ghost use Rattle.circuit.specs.Lent.{parts_in, Whole};
+ghost use Rattle.circuit.specs.Lent.{parts_in};
 ghost use Rattle.gates.specs.Bytes.{part};
 ghost use Rattle.gates.specs.Half.{joined};
-ghost use Rattle.gates.specs.Size.{bytes_of};
+ghost use Rattle.material.specs.Size.{bytes_of};
 ghost use Rattle.tables.specs.Gate.{evaluated, evaluator_calls};
-ghost use Rattle.tables.specs.Material.{listed};
 ghost use Rattle.tables.specs.Table.{places};
-ghost use Rattle.steps.specs.Gate.{new_labels, evaluate_calls};
+ghost use Rattle.steps.specs.Gate.{label_on, labels_on, new_labels, evaluate_calls};
 
 use crate::operands::{eight_fit, operand, read_operands};
 use crate::xor::xor_wire;
-use circuit::arrays::Arrays;
-use circuit::gate::{Gate, passed_gate};
+use circuit::gate::Gate;
+use circuit::passed::Circuit;
 use gates::clear::clear;
 use gates::half;
 use gates::rows::get;
@@ -39,9 +37,9 @@ fn evaluate_and<L: Label, H: LabelHash<L>>(
     requires shaped { length operands.now ≡ 4 }
     requires order { all_below (word_at operands.now) 2 wires.old.made ≡ true }
     requires room { wires.old.made < length wires.old.values.now }
-    requires lent { length material.now ≡ 2 * L.kind.width }
+    requires part { length material.now ≡ 2 * L.kind.width }
     ensures made { wires.new.made ≡ wires.old.made + 1 }
-    ensures grown { Grown wires.old.made 1 (λ _. joined L.kind (H.means h.old) gate (L.kind.from (part 0 L.kind.width material.now)) (L.kind.from (part L.kind.width L.kind.width material.now)) (places L.kind wires.old.values.now (word_at operands.now 0)) (places L.kind wires.old.values.now (word_at operands.now 1))) wires.old.values.now wires.new.values.now }
+    ensures grown { Grown wires.old.made 1 (λ _. joined L.kind (H.means h.old) gate (L.kind.from (part 0 L.kind.width material.now)) (L.kind.from (part L.kind.width L.kind.width material.now)) (label_on L.kind wires.old.values.now operands.now 0) (label_on L.kind wires.old.values.now operands.now 1)) wires.old.values.now wires.new.values.now }
     ensures same { wires.new.values.ghost_name ≡ wires.old.values.ghost_name }
     ensures kept { H.means h.new ≡ H.means h.old }
     ensures count { H.calls h.new ≡ counted (H.calls h.old) 2 }
@@ -54,44 +52,7 @@ fn evaluate_and<L: Label, H: LabelHash<L>>(
     wires.push(label);
 }
 
-// A table: its new wires are lent as the part of the store from the next wire on. The labels of its operands go through `labels`.
-fn evaluate_through<L: Label, H: LabelHash<L>>(
-    h: &mut H,
-    gate: u32,
-    wires: &mut Wires<L>,
-    m: usize,
-    operands: &[u8],
-    material: &[u8],
-    scratch: &mut [L],
-    labels: &mut [L],
-)
-    requires sizes { (m ≤ 16) × ((1 ≤ length operands.now / 2) × ((length operands.now / 2 ≤ 8) × (length labels.old ≡ 8))) }
-    requires order { all_below (word_at operands.now) (length operands.now / 2) wires.old.made ≡ true }
-    requires room { wires.old.made + m ≤ length wires.old.values.now }
-    requires lent { (length material.now ≡ bytes_of L.kind.width (length operands.now / 2) m) × (256 ≤ length scratch.old) }
-    ensures made { wires.new.made ≡ wires.old.made + m }
-    ensures grown { Grown wires.old.made m (places L.kind (evaluated L.kind (H.means h.old) gate (length operands.now / 2) m material.now (places L.kind (listed (length operands.now / 2) (λ i. places L.kind wires.old.values.now (word_at operands.now i)))))) wires.old.values.now wires.new.values.now }
-    ensures same { wires.new.values.ghost_name ≡ wires.old.values.ghost_name }
-    ensures scratch { scratch.new ≡ replicate (length scratch.old) L.kind.zero }
-    ensures kept { H.means h.new ≡ H.means h.old }
-    ensures count { H.calls h.new ≡ counted (H.calls h.old) (evaluator_calls (length operands.now / 2) m) }
-{
-    let n = operands.len() / 2;
-    read_operands(wires, operands, labels);
-    let from = wires.made;
-    let to = from + m;
-    table::evaluate(
-        h,
-        gate,
-        &labels[0..n],
-        material,
-        scratch,
-        &mut wires.values[from..to],
-    );
-    wires.made = to;
-}
-
-// A table: reads its operands and makes its new wires.
+// A table: its new wires are lent as the part of the store from the next wire on.
 fn evaluate_table<L: Label, H: LabelHash<L>>(
     h: &mut H,
     gate: u32,
@@ -101,67 +62,70 @@ fn evaluate_table<L: Label, H: LabelHash<L>>(
     material: &[u8],
     scratch: &mut [L],
 )
-    requires sizes { (m ≤ 16) × ((1 ≤ length operands.now / 2) × (length operands.now / 2 ≤ 8)) }
+    requires least { 1 ≤ length operands.now / 2 }
+    requires most { length operands.now / 2 ≤ 8 }
+    requires outputs { m ≤ 16 }
     requires order { all_below (word_at operands.now) (length operands.now / 2) wires.old.made ≡ true }
     requires room { wires.old.made + m ≤ length wires.old.values.now }
-    requires lent { (length material.now ≡ bytes_of L.kind.width (length operands.now / 2) m) × (256 ≤ length scratch.old) }
+    requires part { length material.now ≡ bytes_of L.kind.width (length operands.now / 2) m }
+    requires scratch { 256 ≤ length scratch.old }
     ensures made { wires.new.made ≡ wires.old.made + m }
-    ensures grown { Grown wires.old.made m (places L.kind (evaluated L.kind (H.means h.old) gate (length operands.now / 2) m material.now (places L.kind (listed (length operands.now / 2) (λ i. places L.kind wires.old.values.now (word_at operands.now i)))))) wires.old.values.now wires.new.values.now }
+    ensures grown { Grown wires.old.made m (places L.kind (evaluated L.kind (H.means h.old) gate (length operands.now / 2) m material.now (places L.kind (labels_on L.kind wires.old.values.now operands.now)))) wires.old.values.now wires.new.values.now }
     ensures same { wires.new.values.ghost_name ≡ wires.old.values.ghost_name }
     ensures scratch { scratch.new ≡ replicate (length scratch.old) L.kind.zero }
     ensures kept { H.means h.new ≡ H.means h.old }
     ensures count { H.calls h.new ≡ counted (H.calls h.old) (evaluator_calls (length operands.now / 2) m) }
 {
     eight_fit(scratch);
-    let mut labels = [L::zero(); 8];
-    evaluate_through(h, gate, wires, m, operands, material, scratch, &mut labels);
+    let mut eight = [L::zero(); 8];
+    let labels = &mut eight[..operands.len() / 2];
+    read_operands(wires, operands, labels);
+    let from = wires.made;
+    let to = from + m;
+    table::evaluate(
+        h,
+        gate,
+        labels,
+        material,
+        scratch,
+        &mut wires.values[from..to],
+    );
+    wires.made = to;
 }
 
 // Evaluates gate g from its material: makes its new wires, and leaves the scratch zero.
 pub fn evaluate_gate<L: Label, H: LabelHash<L>>(
     h: &mut H,
-    a: Arrays,
+    circuit: Circuit,
     g: u16,
     wires: &mut Wires<L>,
     material: &[u8],
     scratch: &mut [L],
 )
-    requires there { g < a.sizes.gates }
-    requires passes { (Whole (parts_in a)) × (gates_refusal (parts_in a) a.sizes.gates ≡ None) }
-    requires made { wires.old.made ≡ made_before (parts_in a) g }
-    requires room { wires_in (parts_in a) ≤ length wires.old.values.now }
-    requires lent { (length material.now ≡ gate_bytes (8 * L.kind.width) (form_of (parts_in a) g)) × (256 ≤ length scratch.old) }
-    ensures made { wires.new.made ≡ made_before (parts_in a.entry) (suc g) }
-    ensures grown { Grown (made_before (parts_in a.entry) g) (makes (form_of (parts_in a.entry) g)) (places L.kind (new_labels (parts_in a.entry) g L.kind (places L.kind wires.old.values.now) (H.means h.old) material.now)) wires.old.values.now wires.new.values.now }
+    requires there { g < circuit.arrays.sizes.gates }
+    requires made { wires.old.made ≡ made_before (parts_in circuit.arrays) g }
+    requires room { circuit.wires ≤ length wires.old.values.now }
+    requires part { length material.now ≡ gate_bytes (8 * L.kind.width) (form_of (parts_in circuit.arrays) g) }
+    requires scratch { 256 ≤ length scratch.old }
+    ensures made { wires.new.made ≡ made_before (parts_in circuit.entry.arrays) (suc g) }
+    ensures grown { Grown (made_before (parts_in circuit.entry.arrays) g) (makes (form_of (parts_in circuit.entry.arrays) g)) (places L.kind (new_labels (parts_in circuit.entry.arrays) g L.kind (places L.kind wires.old.values.now) (H.means h.old) material.now)) wires.old.values.now wires.new.values.now }
     ensures same { wires.new.values.ghost_name ≡ wires.old.values.ghost_name }
     ensures scratch { scratch.new ≡ replicate (length scratch.old) L.kind.zero }
     ensures kept { H.means h.new ≡ H.means h.old }
-    ensures count { H.calls h.new ≡ counted (H.calls h.old) (evaluate_calls (parts_in a.entry) g) }
+    ensures count { H.calls h.new ≡ counted (H.calls h.old) (evaluate_calls (parts_in circuit.entry.arrays) g) }
 {
-    match passed_gate(a, g) {
+    let gate = u32::from(g);
+    match circuit.gate(g) {
         Gate::Xor { operands } => {
             xor_wire(wires, operands);
             clear(scratch);
         }
         Gate::And { operands } => {
-            evaluate_and(h, u32::from(g), wires, operands, material);
+            evaluate_and(h, gate, wires, operands, material);
             clear(scratch);
         }
-        Gate::Table {
-            n: _,
-            m,
-            operands,
-            rows: _,
-        } => {
-            evaluate_table(
-                h,
-                u32::from(g),
-                wires,
-                usize::from(m),
-                operands,
-                material,
-                scratch,
-            );
+        Gate::Table { m, operands, .. } => {
+            evaluate_table(h, gate, wires, usize::from(m), operands, material, scratch);
         }
     }
 }

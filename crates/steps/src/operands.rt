@@ -1,8 +1,7 @@
 // The labels on the wires that a gate reads.
-ghost use Rattle.std.specs.Prelude.{◌≡◌, ◌+◌, ◌*◌, ◌/◌, ◌^◌, ◌<◌, ◌≤◌, true, length, take, slice_set};
+ghost use Rattle.std.specs.Prelude.{◌≡◌, ◌+◌, ◌*◌, ◌/◌, ◌^◌, ◌<◌, ◌≤◌, true, length};
 ghost use Rattle.circuit.specs.Words.{word_at, all_below};
-ghost use Rattle.tables.specs.Material.{listed};
-ghost use Rattle.tables.specs.Table.{places};
+ghost use Rattle.steps.specs.Gate.{label_on, labels_on};
 ghost use Rattle.steps.specs.Memory.{memory_of};
 
 use circuit::words::word_at;
@@ -14,7 +13,7 @@ pub fn operand<L: Label>(wires: &Wires<L>, operands: &[u8], j: usize) -> L
     requires there { 2 * j + 1 < length operands.now }
     requires order { word_at operands.now j < wires.now.made }
     requires room { wires.now.made ≤ length wires.now.values.now }
-    ensures { result ≡ places L.kind wires.now.values.now (word_at operands.now j) }
+    ensures { result ≡ label_on L.kind wires.now.values.now operands.now j }
 {
     wires.read(word_at(operands, j))
 }
@@ -25,23 +24,14 @@ pub fn eight_fit<L: Label>(lent: &[L])
     ensures { 8 * memory_of L.row < 2 ^ 63 }
 {}
 
-// Stores a label.
-fn store<L: Label>(labels: &mut [L], j: usize, x: L)
-    requires { j < length labels.old }
-    ensures { labels.new ≡ slice_set labels.old j x }
-{
-    labels[j] = x;
-}
-
 // The labels on the wires of all operands, one after another.
 pub fn read_operands<L: Label>(wires: &Wires<L>, operands: &[u8], out: &mut [L])
-    requires long { length operands.now / 2 ≤ length out.old }
+    requires long { length out.old ≡ length operands.now / 2 }
     requires order { all_below (word_at operands.now) (length operands.now / 2) wires.now.made ≡ true }
     requires room { wires.now.made ≤ length wires.now.values.now }
-    ensures { take (length operands.now / 2) out.new ≡ listed (length operands.now / 2) (λ i. places L.kind wires.now.values.now (word_at operands.now i)) }
+    ensures { out.new ≡ labels_on L.kind wires.now.values.now operands.now }
 {
-    for j in 0..operands.len() / 2 {
-        let x = operand(wires, operands, j);
-        store(out, j, x);
+    for (j, label) in out.iter_mut().enumerate() {
+        *label = operand(wires, operands, j);
     }
 }

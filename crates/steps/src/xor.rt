@@ -2,7 +2,7 @@
 ghost use Rattle.std.specs.Prelude.{◌≡◌, ◌+◌, ◌<◌, true, length};
 ghost use Rattle.wires.specs.Wires.{Grown};
 ghost use Rattle.circuit.specs.Words.{word_at, all_below};
-ghost use Rattle.tables.specs.Table.{places};
+ghost use Rattle.steps.specs.Gate.{label_on};
 
 use crate::operands::operand;
 use gates::xor::step;
@@ -15,7 +15,7 @@ pub fn xor_wire<L: Label>(wires: &mut Wires<L>, operands: &[u8])
     requires order { all_below (word_at operands.now) 2 wires.old.made ≡ true }
     requires room { wires.old.made < length wires.old.values.now }
     ensures made { wires.new.made ≡ wires.old.made + 1 }
-    ensures grown { Grown wires.old.made 1 (λ _. L.kind.xor (places L.kind wires.old.values.now (word_at operands.now 0)) (places L.kind wires.old.values.now (word_at operands.now 1))) wires.old.values.now wires.new.values.now }
+    ensures grown { Grown wires.old.made 1 (λ _. L.kind.xor (label_on L.kind wires.old.values.now operands.now 0) (label_on L.kind wires.old.values.now operands.now 1)) wires.old.values.now wires.new.values.now }
     ensures same { wires.new.values.ghost_name ≡ wires.old.values.ghost_name }
 {
     let a = operand(wires, operands, 0);

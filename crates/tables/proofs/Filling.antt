@@ -19,15 +19,7 @@ module _ {L : Type 0} (K : Kind L) where
   pub past_set : (n m k : ℕ) (V v : List L) (x : L) → Past K n V v → k < m → n ≤ m → Past K m V (set v k x)
   past_set n m k V v x h l g i r = get_or-set_other v k i x K.zero (omega arith) ∙ h i (omega arith)
 
--- from a place on
-pub there_more : {X : Type 0} (d : X) (from n : ℕ) (f : ℕ → X) (v : List X) (x : X) → ((i : ℕ) → i < n → get_or v (from + i) d ≡ f i) → from + n < length v → x ≡ f n
-    → (i : ℕ) → i < n + 1 → get_or (set v (from + n) x) (from + i) d ≡ f i
-there_more d from n f v x h l e i g =
-    elim (cases_eq i n) [
-      | inl p ↦ ap (λ k. get_or (set v (from + n) x) (from + k) d) p ∙ get_or-set_same v (from + n) x d l ∙ e ∙ ap f (sym p)
-      | inr p ↦ get_or-set_other v (from + n) (from + i) x d (omega arith) ∙ h i (omega arith)
-    ]
-
+-- from the front
 pub there_first : {X : Type 0} (d : X) (n : ℕ) (f : ℕ → X) (v : List X) (x : X) → ((i : ℕ) → i < n → get_or v i d ≡ f i) → n < length v → x ≡ f n
     → (i : ℕ) → i < n + 1 → get_or (set v n x) i d ≡ f i
 there_first d n f v x h l e i g =

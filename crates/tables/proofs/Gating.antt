@@ -5,7 +5,7 @@ use Rattle.labels.specs.Kind.{Kind, times}
 use Rattle.gates.proofs.Halves as halves
 use Rattle.labels.specs.Numbers.{bit}
 use Rattle.tables.specs.Table.{based, colours, hot, hot_row, mask_row, turned}
-use Rattle.gates.specs.Size.{labels_of}
+use Rattle.material.specs.Size.{labels_of}
 use Rattle.tables.specs.Material.{packed, unpacked, row_bytes, mask_rows}
 use Rattle.tables.specs.Gate as gates
 use Rattle.tables.specs.All as AllGates

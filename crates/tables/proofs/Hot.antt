@@ -1,5 +1,5 @@
 -- Step 1 of the table gate, level by level in place. Assumes nothing.
-use Rattle.std.proofs.Common.{◌≡◌, ℕ, zero, suc, ◌+◌, ◌-◌, ◌*◌, ◌^◌, ◌<◌, ◌≤◌, Bool, cond, eqb, List, length, set, sym, ap, ◌∙◌, subst, ap₂, inl, inr, add_comm, add-one, arith, length-set, get_or-set_other, get_or-set_same, pow_mono}
+use Rattle.std.proofs.Common.{◌≡◌, ℕ, zero, suc, ◌+◌, ◌-◌, ◌*◌, ◌^◌, ◌<◌, ◌≤◌, Bool, cond, eqb, List, length, set, sym, ap, ◌∙◌, ap₂, inl, inr, add_comm, add-one, arith, length-set, get_or-set_other, get_or-set_same, pow_mono}
 use Rattle.std.proofs.lemmas.Bool.{cases_lt, lt-ltb, le-ltb}
 use Rattle.gates.specs.Tweak.{tweak}
 use Rattle.labels.specs.Kind.{Kind}
@@ -49,9 +49,6 @@ module _ {L : Type 0} (K : Kind L) where
         ∙ grown_ext (2 ^ j) (places K v) (hot K F gate Δ B j) (hashed K F gate (2 ^ j) (places K v)) (hashed K F gate (2 ^ j) (hot K F gate Δ B j)) h (hashed_ext (2 ^ j) (places K v) (hot K F gate Δ B j) h) i below
         ∙ sym (hot_step Δ B j i l)
 
-    pub hot_all : (Δ : L) (B : ℕ → L) (j n : ℕ) (v : List L) → j ≡ n → Holds K (2 ^ j) (hot K F gate Δ B j) v → Holds K (2 ^ n) (hot K F gate Δ B n) v
-    hot_all Δ B j n v q h = subst (λ k. Holds K (2 ^ k) (hot K F gate Δ B k) v) q h
-
     pub row_more : (F' : L → ℕ → L) (Δ : L) (B : ℕ → L) (j w k : ℕ) (v : List L) (b a r : L) → F' ≡ F → w ≡ 2 ^ j → suc k ≡ j → Holds K (2 ^ j) (hot K F gate Δ B j) v
         → a ≡ sum K w (hashed K F' gate w (places K v)) → b ≡ B j → r ≡ K.xor b a → r ≡ hot_row K F gate Δ B (suc k)
     row_more F' Δ B j w k v b a r f e q h ea eb er =
@@ -86,9 +83,6 @@ module _ {L : Type 0} (K : Kind L) where
         ∙ grown_ext (2 ^ j) (places K v) (seen K F gate R E j) _ _ h
         (filled_ext (2 ^ j) (colours K j E) (K.xor (R j) (E j)) (hashed K F gate (2 ^ j) (places K v)) (hashed K F gate (2 ^ j) (seen K F gate R E j)) (hashed_ext (2 ^ j) (places K v) (seen K F gate R E j) h)) i below
         ∙ sym (seen_step R E j i l)
-
-    pub seen_all : (R E : ℕ → L) (j n : ℕ) (v : List L) → j ≡ n → Holds K (2 ^ j) (seen K F gate R E j) v → Holds K (2 ^ n) (seen K F gate R E n) v
-    seen_all R E j n v q h = subst (λ k. Holds K (2 ^ k) (seen K F gate R E k) v) q h
 
   pub colours_more : (E : ℕ → L) (j w x a c : ℕ) (b : Bool) (e : L) → x ≡ colours K j E → w ≡ 2 ^ j → b ≡ K.colour e → e ≡ E j → a ≡ cond b 1 0 * w → c ≡ x + a → c ≡ colours K (j + 1) E
   colours_more E j w x a c b e ex ew eb ee ea ec =

@@ -5,6 +5,7 @@ pub mod Tables
 pub mod Growing
 pub mod Running
 pub mod Filling
+pub mod Parts
 pub mod Hot
 pub mod Masks
 pub mod Givens

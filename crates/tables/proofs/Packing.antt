@@ -1,11 +1,11 @@
 -- Rows of bits packed into bytes, and lists made of a function of the place. Assumes nothing.
-use Rattle.std.proofs.Common.{◌≡◌, ℕ, zero, suc, ◌+◌, ◌-◌, ◌*◌, ◌/◌, ◌%◌, ◌^◌, ◌<◌, ◌≤◌, min, Bool, false, cond, ltb, List, [], ◌∷◌, ◌++◌, length, get_or, take, set, sym, refl, ap, ◌∙◌, ap₂, inl, inr, add-zero, add-suc, add_comm, mul-zero, add-one, arith, pow_mono}
+use Rattle.std.proofs.Common.{◌≡◌, ℕ, zero, suc, ◌+◌, ◌-◌, ◌*◌, ◌/◌, ◌%◌, ◌^◌, ◌<◌, ◌≤◌, min, Bool, false, cond, ltb, List, [], ◌∷◌, ◌++◌, length, get_or, take, set, sym, refl, ap, ◌∙◌, subst, ap₂, inl, inr, add-zero, add-suc, add_comm, mul-zero, add-one, arith, pow_mono}
 use lib.Arith.{digits_lt, digits_div, digits_mod}
 use Rattle.std.proofs.lemmas.Nat.{div_below}
 use Rattle.std.proofs.lemmas.List.{take_more, take_all, length_push, get_or_push, get_or_append_left, get_or-set_same, get_or-set_other}
 use Rattle.std.proofs.lemmas.Bool.{cases_eq, cases_lt, lt-ltb, le-ltb}
 use Rattle.labels.specs.Numbers.{bit, number}
-use Rattle.gates.specs.Size.{in_bytes}
+use Rattle.material.specs.Size.{in_bytes}
 use Rattle.tables.specs.Material.{listed, stream, packed, bit_at, unpacked}
 use Rattle.tables.specs.Level.{Packing}
 use Rattle.tables.proofs.Numbering.{number_below, number_bit, number_ext, two_pow}
@@ -69,17 +69,8 @@ module _ (w m : ℕ) (f : ℕ → ℕ) where
       let q = pow_mono {i = suc (p % 8)} {j = 8} (omega arith) in
       omega arith
 
-  pub packing_none : (bytes : List ℕ) → ((b : ℕ) → b < length bytes → get_or bytes b 0 ≡ 0) → Packing w m f 0 bytes
-  packing_none bytes h b l = h b l ∙ (let e : 0 ≡ min 8 (0 - 8 * b) = omega arith in ap (λ k. number k (λ k. stream w m f (8 * b + k))) e)
-
-  pub packing_more : (p x : ℕ) (bytes : List ℕ) → Packing w m f p bytes → p / 8 < length bytes → x ≡ cond (stream w m f p) 1 0 * 2 ^ (p % 8) → Packing w m f (p + 1) (set bytes (p / 8) (get_or bytes (p / 8) 0 + x))
-  packing_more p x bytes h l ex b g =
-      let y : ℕ = get_or bytes (p / 8) 0 + x in
-      let len = Rattle.std.proofs.lemmas.List.length-set bytes (p / 8) y in
-      elim (cases_eq b (p / 8)) [
-        | inl e ↦ ap (λ k. get_or (set bytes (p / 8) y) k 0) e ∙ get_or-set_same bytes (p / 8) y 0 l ∙ full ∙ ap (λ k. number (min 8 (p + 1 - 8 * k)) (λ i. stream w m f (8 * k + i))) (sym e)
-        | inr e ↦ get_or-set_other bytes (p / 8) b y 0 e ∙ h b (omega arith) ∙ (let q : min 8 (p - 8 * b) ≡ min 8 (p + 1 - 8 * b) = omega arith in ap (λ k. number k (λ i. stream w m f (8 * b + i))) q)
-      ]
+  pub packing_more : (p q x : ℕ) (bytes : List ℕ) → Packing w m f p bytes → p / 8 < length bytes → x ≡ cond (stream w m f p) 1 0 * 2 ^ (p % 8) → q ≡ p + 1 → Packing w m f q (set bytes (p / 8) (get_or bytes (p / 8) 0 + x))
+  packing_more p q x bytes h l ex eq = subst (λ n. Packing w m f n (set bytes (p / 8) (get_or bytes (p / 8) 0 + x))) (sym eq) more
     where
       full : get_or bytes (p / 8) 0 + x ≡ number (min 8 (p + 1 - 8 * (p / 8))) (λ i. stream w m f (8 * (p / 8) + i))
       full =
@@ -87,6 +78,15 @@ module _ (w m : ℕ) (f : ℕ → ℕ) where
           let c : p % 8 + 1 ≡ min 8 (p + 1 - 8 * (p / 8)) = omega arith in
           number_more (p % 8) x (2 ^ (p % 8)) _ _ (λ i. stream w m f (8 * (p / 8) + i)) _ (packing_here p bytes h l) refl (ap (stream w m f) q) ex refl
           ∙ ap (λ k. number k (λ i. stream w m f (8 * (p / 8) + i))) c
+
+      more : Packing w m f (p + 1) (set bytes (p / 8) (get_or bytes (p / 8) 0 + x))
+      more b g =
+          let y : ℕ = get_or bytes (p / 8) 0 + x in
+          let len = Rattle.std.proofs.lemmas.List.length-set bytes (p / 8) y in
+          elim (cases_eq b (p / 8)) [
+            | inl e ↦ ap (λ k. get_or (set bytes (p / 8) y) k 0) e ∙ get_or-set_same bytes (p / 8) y 0 l ∙ full ∙ ap (λ k. number (min 8 (p + 1 - 8 * k)) (λ i. stream w m f (8 * k + i))) (sym e)
+            | inr e ↦ get_or-set_other bytes (p / 8) b y 0 e ∙ h b (omega arith) ∙ (let q : min 8 (p - 8 * b) ≡ min 8 (p + 1 - 8 * b) = omega arith in ap (λ k. number k (λ i. stream w m f (8 * b + i))) q)
+          ]
 
   pub packing_all : (p : ℕ) (bytes : List ℕ) → Packing w m f p bytes → p ≡ w * m → length bytes ≡ in_bytes (w * m) → bytes ≡ packed w m f
   packing_all p bytes h e len =

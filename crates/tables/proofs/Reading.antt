@@ -6,7 +6,7 @@ use Rattle.std.proofs.lemmas.List.{append-nil, append_assoc, length-append, take
 use Rattle.std.proofs.lemmas.Bool.{cases_lt}
 use Rattle.labels.specs.Kind.{Kind}
 use Rattle.gates.specs.Bytes.{part}
-use Rattle.gates.specs.Size.{labels_of}
+use Rattle.material.specs.Size.{labels_of}
 use Rattle.tables.specs.Material.{each, packed, row_bytes, written}
 use Rattle.tables.proofs.Masks.{next_row, rows_within}
 

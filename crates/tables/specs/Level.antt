@@ -2,10 +2,14 @@
 use Rattle.std.specs.Prelude.{◌≡◌, ℕ, suc, ◌+◌, ◌-◌, ◌*◌, ◌^◌, ◌<◌, ◌≤◌, min, Bool, cond, List, length, slice_index}
 use Rattle.labels.specs.Kind.{Kind, times}
 use Rattle.labels.specs.Numbers.{number}
-use Rattle.tables.specs.Table.{places, sum, picked}
+use Rattle.tables.specs.Table.{places, based, sum, picked}
 use Rattle.tables.specs.Material.{stream}
 
 module _ {L : Type 0} (K : Kind L) where
+  -- the labels of colour 0 of the wires with these zero labels
+  abbrev pub bases : L → List L → ℕ → L
+  bases Δ zeros k = based K Δ (places K zeros k)
+
   -- the first n places of v are f
   abbrev pub Holds : ℕ → (ℕ → L) → List L → Type 0
   Holds n f v = (i : ℕ) → i < n → places K v i ≡ f i

@@ -2,7 +2,7 @@
 use Rattle.std.specs.Prelude.{ℕ, zero, suc, ◌+◌, ◌-◌, ◌*◌, ◌/◌, ◌%◌, ◌^◌, Bool, false, cond, List, [], ◌∷◌, ◌++◌, drop, nat_lt, slice_index}
 use Rattle.labels.specs.Kind.{Kind}
 use Rattle.gates.specs.Bytes.{part}
-use Rattle.gates.specs.Size.{in_bytes, labels_of}
+use Rattle.material.specs.Size.{in_bytes, labels_of}
 use Rattle.labels.specs.Numbers.{bit, number}
 
 -- f 0, f 1, up to f (n - 1), one after another

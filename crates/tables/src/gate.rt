@@ -3,11 +3,11 @@ ghost use Rattle.std.specs.Prelude.{◌≡◌, ℕ, suc, ◌+◌, ◌-◌, ◌*�
 ghost use Rattle.hashes.specs.Count.{counted};
 ghost use Rattle.tables.specs.All.{Sound};
 ghost use Rattle.tables.specs.Gate.{material_for, zeros_for, evaluated, Meets, garbler_calls, evaluator_calls};
-ghost use Rattle.tables.specs.Level.{Holds};
-ghost use Rattle.gates.specs.Size.{labels_of, bytes_of};
+ghost use Rattle.tables.specs.Level.{bases, Holds};
+ghost use Rattle.material.specs.Size.{labels_of, bytes_of};
 ghost use Rattle.tables.specs.Material.{row_bytes, row_word};
 ghost use Rattle.tables.specs.Ran.{Ran};
-ghost use Rattle.tables.specs.Table.{places, based, colours as of_colours, hot, hot_row, mask_row, turned, made};
+ghost use Rattle.tables.specs.Table.{places, colours as of_colours, hot, hot_row, mask_row, turned, made};
 
 use crate::levels::{evaluate_levels, garble_levels};
 use crate::number::colours;
@@ -21,10 +21,10 @@ use hashes::hash::LabelHash;
 use labels::kind::Label;
 
 // The garbler's steps 1 to 4 for the number s: the new wires' zero labels, the material's rows, and the numbers f' in fs.
+// The arguments stay apart: the checker covers no struct whose label is copied out and then used again in it.
 fn garble_labels<L: Label, H: LabelHash<L>>(
     h: &mut H,
     gate: u32,
-    m: u32,
     s: u16,
     offset: L,
     zeros: &[L],
@@ -34,26 +34,30 @@ fn garble_labels<L: Label, H: LabelHash<L>>(
     new: &mut [L],
     material: &mut [u8],
 )
-    requires small { (m ≤ 16) × ((length new.old ≡ m) × ((1 ≤ length zeros.now) × (length zeros.now ≤ 8))) }
-    requires long { (256 ≤ length v.old) × ((length fs.old ≡ 256) × ((length rows.now ≡ 2 * 2 ^ length zeros.now) × (labels_of (length zeros.now) m * L.kind.width ≤ length material.old))) }
-    ensures news { Holds L.kind m (made L.kind (H.means h.old) gate m (length zeros.now) s offset (places L.kind zeros.now) (row_word rows.now)) new.new }
-    ensures hots { (k : ℕ) → k < length zeros.now - 1 → row_bytes L.kind k material.new ≡ L.kind.bytes (hot_row L.kind (H.means h.old) gate offset (λ k. based L.kind offset (places L.kind zeros.now k)) (suc k)) }
-    ensures masks { (d : ℕ) → d < length zeros.now → (j : ℕ) → j < m → row_bytes L.kind (length zeros.now - 1 + (d * m + j)) material.new ≡ L.kind.bytes (mask_row L.kind (H.means h.old) gate m (length zeros.now) offset (λ k. based L.kind offset (places L.kind zeros.now k)) (hot L.kind (H.means h.old) gate offset (λ k. based L.kind offset (places L.kind zeros.now k)) (length zeros.now)) d j) }
-    ensures turns { (i : ℕ) → i < 2 ^ length zeros.now → slice_index fs.new i ≡ turned L.kind (H.means h.old) gate m (length zeros.now) s offset (λ k. based L.kind offset (places L.kind zeros.now k)) (row_word rows.now) (of_colours L.kind (length zeros.now) (places L.kind zeros.now)) i }
-    ensures ran { Ran (H.means h.old) (H.means h.new) (H.calls h.old) (H.calls h.new) (3 * 2 ^ length zeros.now - 4 + 2 * (length zeros.now * m)) }
+    requires outputs { length new.old ≤ 16 }
+    requires some { 1 ≤ length zeros.now }
+    requires few { length zeros.now ≤ 8 }
+    requires hots { length v.old ≡ 2 ^ length zeros.now }
+    requires turns { length fs.old ≡ 2 ^ length zeros.now }
+    requires words { length rows.now ≡ 2 * 2 ^ length zeros.now }
+    requires room { labels_of (length zeros.now) (length new.old) * L.kind.width ≤ length material.old }
+    ensures news { Holds L.kind (length new.old) (made L.kind (H.means h.old) gate (length new.old) (length zeros.now) s offset (places L.kind zeros.now) (row_word rows.now)) new.new }
+    ensures hots { (k : ℕ) → k < length zeros.now - 1 → row_bytes L.kind k material.new ≡ L.kind.bytes (hot_row L.kind (H.means h.old) gate offset (bases L.kind offset zeros.now) (suc k)) }
+    ensures masks { (d : ℕ) → d < length zeros.now → (j : ℕ) → j < length new.old → row_bytes L.kind (length zeros.now - 1 + (d * length new.old + j)) material.new ≡ L.kind.bytes (mask_row L.kind (H.means h.old) gate (length new.old) (length zeros.now) offset (bases L.kind offset zeros.now) (hot L.kind (H.means h.old) gate offset (bases L.kind offset zeros.now) (length zeros.now)) d j) }
+    ensures turns { (i : ℕ) → i < 2 ^ length zeros.now → slice_index fs.new i ≡ turned L.kind (H.means h.old) gate (length new.old) (length zeros.now) s offset (bases L.kind offset zeros.now) (row_word rows.now) (of_colours L.kind (length zeros.now) (places L.kind zeros.now)) i }
+    ensures ran { Ran (H.means h.old) (H.means h.new) (H.calls h.old) (H.calls h.new) (3 * 2 ^ length zeros.now - 4 + 2 * (length zeros.now * length new.old)) }
 {
     let n = zeros.len();
-    let w = 1 << n;
     let alpha = colours(zeros);
     let mut nums = [0u16; 512];
     garble_one_hot(h, gate, offset, zeros, v, material);
-    pick_all(h, gate, m, offset, zeros, &mut nums);
-    mask_table(rows, alpha, s, &nums, n, w, fs);
-    start_wires(s, offset, fs, v, w, new);
-    garble_levels(h, gate, m, offset, zeros, &nums, v, w, new, material, n - 1);
+    pick_all(h, gate, new.len() as u32, offset, zeros, &mut nums);
+    mask_table(rows, alpha, s, &nums, n, fs);
+    start_wires(s, offset, fs, v, new);
+    garble_levels(h, gate, offset, zeros, &nums, v, new, material);
 }
 
-// The garbler's step, but for the clearing of the scratch.
+// The garbler's step, but for the clearing of the scratch; the same arguments.
 fn garble_uncleared<L: Label, H: LabelHash<L>>(
     h: &mut H,
     gate: u32,
@@ -65,8 +69,13 @@ fn garble_uncleared<L: Label, H: LabelHash<L>>(
     scratch: &mut [L],
     new: &mut [L],
 )
-    requires sizes { (gate < 512) × ((1 ≤ length zeros.now) × ((length zeros.now ≤ 8) × (length new.old ≤ 16))) }
-    requires lent { (length rows.now ≡ 2 * 2 ^ length zeros.now) × ((length material.old ≡ bytes_of L.kind.width (length zeros.now) (length new.old)) × (256 ≤ length scratch.old)) }
+    requires gate { gate < 512 }
+    requires some { 1 ≤ length zeros.now }
+    requires few { length zeros.now ≤ 8 }
+    requires outputs { length new.old ≤ 16 }
+    requires words { length rows.now ≡ 2 * 2 ^ length zeros.now }
+    requires room { length material.old ≡ bytes_of L.kind.width (length zeros.now) (length new.old) }
+    requires lent { 256 ≤ length scratch.old }
     ensures material { material.new ≡ material_for L.kind (H.means h.old) gate seed offset zeros.now rows.now (length new.old) }
     ensures news { new.new ≡ zeros_for L.kind (H.means h.old) gate seed offset zeros.now rows.now (length new.old) }
     ensures kept { H.means h.new ≡ H.means h.old }
@@ -75,15 +84,16 @@ fn garble_uncleared<L: Label, H: LabelHash<L>>(
     let n = zeros.len();
     let m = new.len();
     let s = draw(h, seed, 2048 + gate).low_bits(m as u32);
-    let mut fs = [0u16; 256];
-    garble_labels(
-        h, gate, m as u32, s, offset, zeros, rows, scratch, &mut fs, new, material,
-    );
+    let mut numbers = [0u16; 256];
+    let fs = &mut numbers[..1 << n];
+    let v = &mut scratch[..1 << n];
+    garble_labels(h, gate, s, offset, zeros, rows, v, fs, new, material);
     let table = (n - 1 + n * m) * L::width();
-    pack(&fs, 1 << n, m, &mut material[table..]);
+    pack(fs, m, &mut material[table..]);
 }
 
 // The garbler's step: writes the gate's material and the zero labels of its new wires, and leaves the scratch zero.
+// Nine arguments: three of them are memories that callers lend apart, and `steps`, above this crate, holds seed and offset as one.
 pub fn garble<L: Label, H: LabelHash<L>>(
     h: &mut H,
     gate: u32,
@@ -95,8 +105,13 @@ pub fn garble<L: Label, H: LabelHash<L>>(
     scratch: &mut [L],
     new: &mut [L],
 )
-    requires sizes { (gate < 512) × ((1 ≤ length zeros.now) × ((length zeros.now ≤ 8) × (length new.old ≤ 16))) }
-    requires lent { (length rows.now ≡ 2 * 2 ^ length zeros.now) × ((length material.old ≡ bytes_of L.kind.width (length zeros.now) (length new.old)) × (256 ≤ length scratch.old)) }
+    requires gate { gate < 512 }
+    requires some { 1 ≤ length zeros.now }
+    requires few { length zeros.now ≤ 8 }
+    requires outputs { length new.old ≤ 16 }
+    requires words { length rows.now ≡ 2 * 2 ^ length zeros.now }
+    requires room { length material.old ≡ bytes_of L.kind.width (length zeros.now) (length new.old) }
+    requires lent { 256 ≤ length scratch.old }
     ensures material { material.new ≡ material_for L.kind (H.means h.old) gate seed offset zeros.now rows.now (length new.old) }
     ensures news { new.new ≡ zeros_for L.kind (H.means h.old) gate seed offset zeros.now rows.now (length new.old) }
     ensures scratch { scratch.new ≡ replicate (length scratch.old) L.kind.zero }
@@ -116,8 +131,11 @@ fn evaluate_uncleared<L: Label, H: LabelHash<L>>(
     scratch: &mut [L],
     new: &mut [L],
 )
-    requires sizes { (1 ≤ length labels.now) × ((length labels.now ≤ 8) × (length new.old ≤ 16)) }
-    requires lent { (length material.now ≡ bytes_of L.kind.width (length labels.now) (length new.old)) × (256 ≤ length scratch.old) }
+    requires some { 1 ≤ length labels.now }
+    requires few { length labels.now ≤ 8 }
+    requires outputs { length new.old ≤ 16 }
+    requires room { length material.now ≡ bytes_of L.kind.width (length labels.now) (length new.old) }
+    requires lent { 256 ≤ length scratch.old }
     ensures news { new.new ≡ evaluated L.kind (H.means h.old) gate (length labels.now) (length new.old) material.now (places L.kind labels.now) }
     ensures meets { Meets L.kind (H.means h.old) gate (length labels.now) (length new.old) material.now (places L.kind labels.now) new.new }
     ensures kept { H.means h.new ≡ H.means h.old }
@@ -125,13 +143,14 @@ fn evaluate_uncleared<L: Label, H: LabelHash<L>>(
 {
     let n = labels.len();
     let m = new.len();
-    let w = 1 << n;
-    let mut fs = [0u16; 256];
+    let mut numbers = [0u16; 256];
+    let fs = &mut numbers[..1 << n];
     let table = (n - 1 + n * m) * L::width();
-    unpack(&material[table..], w, m, &mut fs);
-    evaluate_one_hot(h, gate, labels, material, scratch);
-    choose(&fs, scratch, w, new);
-    evaluate_levels(h, gate, m as u32, labels, material, n - 1, scratch, w, new);
+    unpack(&material[table..], m, fs);
+    let v = &mut scratch[..1 << n];
+    evaluate_one_hot(h, gate, labels, material, v);
+    choose(fs, v, new);
+    evaluate_levels(h, gate, labels, material, v, new);
 }
 
 // The evaluator's step: its labels of the new wires, from its labels and the gate's material; leaves the scratch zero.
@@ -143,8 +162,11 @@ pub fn evaluate<L: Label, H: LabelHash<L>>(
     scratch: &mut [L],
     new: &mut [L],
 )
-    requires sizes { (1 ≤ length labels.now) × ((length labels.now ≤ 8) × (length new.old ≤ 16)) }
-    requires lent { (length material.now ≡ bytes_of L.kind.width (length labels.now) (length new.old)) × (256 ≤ length scratch.old) }
+    requires some { 1 ≤ length labels.now }
+    requires few { length labels.now ≤ 8 }
+    requires outputs { length new.old ≤ 16 }
+    requires room { length material.now ≡ bytes_of L.kind.width (length labels.now) (length new.old) }
+    requires lent { 256 ≤ length scratch.old }
     ensures news { new.new ≡ evaluated L.kind (H.means h.old) gate (length labels.now) (length new.old) material.now (places L.kind labels.now) }
     ensures meets { Meets L.kind (H.means h.old) gate (length labels.now) (length new.old) material.now (places L.kind labels.now) new.new }
     ensures scratch { scratch.new ≡ replicate (length scratch.old) L.kind.zero }
@@ -157,8 +179,6 @@ pub fn evaluate<L: Label, H: LabelHash<L>>(
 
 // Whoever holds the labels of the operands' bits gets those of the new wires' bits, at each of the three gates:
 // for every label kind and every F.
-pub fn gates_stand<L: Label>() -> u8
+pub fn gates_stand<L: Label>()
     ensures { Sound L.kind }
-{
-    0
-}
+{}

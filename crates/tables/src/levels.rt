@@ -1,10 +1,12 @@
 // Step 2 of the table gate, level by level: the rows, the new wires' parts, and the halvings of V.
-ghost use Rattle.std.specs.Prelude.{◌≡◌, ℕ, suc, ◌+◌, ◌-◌, ◌*◌, ◌^◌, ◌<◌, ◌≤◌, true, false, length, slice_index};
+ghost use Rattle.std.specs.Prelude.{◌≡◌, ℕ, suc, ◌+◌, ◌-◌, ◌*◌, ◌/◌, ◌^◌, ◌<◌, ◌≤◌, true, false, length, slice_index};
 ghost use Rattle.labels.specs.Kind.{times as scaled};
-ghost use Rattle.tables.specs.Level.{Holds, Numbered};
-ghost use Rattle.tables.specs.Material.{row_bytes, row_at};
+ghost use Rattle.gates.specs.Tweak.{tweak as at_point};
+ghost use Rattle.tables.specs.Level.{bases, Holds, Numbered};
+ghost use Rattle.material.specs.Size.{labels_of};
+ghost use Rattle.tables.specs.Material.{row_bytes, row_at, mask_rows};
 ghost use Rattle.tables.specs.Ran.{Ran};
-ghost use Rattle.tables.specs.Table.{places, based, masked, level, sum, given as share_of, mask_row, taken};
+ghost use Rattle.tables.specs.Table.{places, chosen, masked, level as level_of, sum, given as share_of, mask_row, taken};
 
 use crate::number::{base, level_after, weight};
 use crate::random::pick;
@@ -15,105 +17,116 @@ use gates::tweak::tweak;
 use hashes::hash::LabelHash;
 use labels::kind::Label;
 
-// V[i] becomes V[i] ⊕ V[i + w], for the i below w.
-fn halve<L: Label>(v: &mut [L], w: usize)
-    requires { w + w ≤ length v.old }
-    ensures { Holds L.kind w (λ i. L.kind.xor (places L.kind v.old i) (places L.kind v.old (i + w))) v.new }
+// A level of step 2: the gate's number, the level's, its key, and the number of its first row in the material.
+#[derive(Drop)]
+struct Level<L> {
+    gate: u32,
+    l: usize,
+    key: L,
+    row: usize,
+    ghost least: { 1 ≤ l },
+    ghost most: { l ≤ 8 },
+}
+
+// V[i] becomes V[i] ⊕ V[i + w], for the i below w, the half of V's length.
+fn halve<L: Label>(v: &mut [L])
+    ensures { Holds L.kind (length v.old / 2) (λ i. L.kind.xor (places L.kind v.old i) (places L.kind v.old (i + length v.old / 2))) v.new }
 {
-    for i in 0..w {
-        v[i] = v[i].xor(v[i + w]);
+    let (front, back) = v.split_at_mut(v.len() / 2);
+    // By the place in both halves: nothing is proved of what a zip of `iter_mut` wrote.
+    for (i, x) in front.iter_mut().enumerate() {
+        *x = x.xor(back[i]);
     }
 }
 
-// S(b,j) ⊕ M(b,j), from the numbers and the key.
+// S(b,j) ⊕ M(b,j), from the numbers for b, the half of V that b names, and the key.
 fn mask<L: Label, H: LabelHash<L>>(
     h: &mut H,
     gate: u32,
     l: usize,
-    w: usize,
     key: L,
-    b: bool,
     nums: &[u16],
-    from: usize,
     v: &[L],
     j: usize,
 ) -> L
-    requires small { (j < 16) × (l ≤ 8) }
-    requires long { (from + w ≤ length nums.now) × (w + w ≤ length v.now) }
-    ensures answer { result ≡ masked L.kind (H.means h.old) gate l w (λ i. slice_index nums.now (from + i)) key b (places L.kind v.now) j }
+    requires small { j < 16 }
+    requires low { l ≤ 8 }
+    requires paired { length nums.now ≡ length v.now }
+    ensures answer { result ≡ L.kind.xor (chosen L.kind j (length v.now) (λ i. slice_index nums.now i) (places L.kind v.now)) (H.means h.old key (at_point gate (512 + 16 * l + j))) }
     ensures ran { Ran (H.means h.old) (H.means h.new) (H.calls h.old) (H.calls h.new) 1 }
 {
-    let some = gather(j, nums, from, v, weight(b, w), w);
-    some.xor(h.hash(key, tweak(gate, 512 + 16 * l + j)))
+    gather(j, nums, v).xor(h.hash(key, tweak(gate, 512 + 16 * l + j)))
 }
 
-// The garbler's level l: adds its parts to the new wires, and writes the material's rows from row `at` on.
+// The garbler's level: adds its parts to the new wires, and writes its rows of the material.
 fn garble_level<L: Label, H: LabelHash<L>>(
     h: &mut H,
-    gate: u32,
-    l: usize,
-    w: usize,
+    level: Level<L>,
     offset: L,
-    key: L,
     nums: &[u16],
-    from: usize,
     v: &[L],
     new: &mut [L],
     material: &mut [u8],
-    at: usize,
 )
-    requires small { (length new.old ≤ 16) × (l ≤ 8) }
-    requires long { (from + w + w ≤ length nums.now) × ((w + w ≤ length v.now) × ((at + length new.old) * L.kind.width ≤ length material.old)) }
-    ensures news { Holds L.kind (length new.old) (λ j. L.kind.xor (places L.kind new.old j) (level L.kind (H.means h.old) gate l w offset key (λ i. slice_index nums.now (from + i)) (places L.kind v.now) false j)) new.new }
-    ensures row { (j : ℕ) → j < length new.old → row_bytes L.kind (at + j) material.new ≡ L.kind.bytes (L.kind.xor (level L.kind (H.means h.old) gate l w offset key (λ i. slice_index nums.now (from + i)) (places L.kind v.now) false j) (level L.kind (H.means h.old) gate l w offset key (λ i. slice_index nums.now (from + i)) (places L.kind v.now) true j)) }
-    ensures before { (i : ℕ) → i < at → row_bytes L.kind i material.new ≡ row_bytes L.kind i material.old }
+    requires small { length new.old ≤ 16 }
+    requires labels { length v.now ≡ 2 ^ level.l }
+    requires numbers { length nums.now ≡ 2 ^ level.l }
+    requires room { (level.row + length new.old) * L.kind.width ≤ length material.old }
+    ensures news { Holds L.kind (length new.old) (λ j. L.kind.xor (places L.kind new.old j) (level_of L.kind (H.means h.old) level.gate level.l (2 ^ (level.l - 1)) offset level.key (λ i. slice_index nums.now i) (places L.kind v.now) false j)) new.new }
+    ensures row { (j : ℕ) → j < length new.old → row_bytes L.kind (level.row + j) material.new ≡ L.kind.bytes (L.kind.xor (level_of L.kind (H.means h.old) level.gate level.l (2 ^ (level.l - 1)) offset level.key (λ i. slice_index nums.now i) (places L.kind v.now) false j) (level_of L.kind (H.means h.old) level.gate level.l (2 ^ (level.l - 1)) offset level.key (λ i. slice_index nums.now i) (places L.kind v.now) true j)) }
+    ensures before { (i : ℕ) → i < level.row → row_bytes L.kind i material.new ≡ row_bytes L.kind i material.old }
     ensures ran { Ran (H.means h.old) (H.means h.new) (H.calls h.old) (H.calls h.new) (2 * length new.old) }
 {
-    let key0 = key.xor(times(false, offset));
-    let key1 = key.xor(times(true, offset));
-    for j in 0..new.len() {
-        let zero = mask(h, gate, l, w, key0, false, nums, from, v, j);
-        let one = mask(h, gate, l, w, key1, true, nums, from + w, v, j);
-        put_row(material, at + j, zero.xor(one));
-        new[j] = new[j].xor(zero);
+    let w = 1 << (level.l - 1);
+    let key0 = level.key;
+    let key1 = key0.xor(offset);
+    for (j, label) in new.iter_mut().enumerate() {
+        let zero = mask(h, level.gate, level.l, key0, &nums[..w], &v[..w], j);
+        let one = mask(h, level.gate, level.l, key1, &nums[w..], &v[w..], j);
+        put_row(material, level.row + j, zero.xor(one));
+        *label = label.xor(zero);
     }
 }
 
-// Step 2 of the garbler, at all levels: adds its parts to the new wires, writes the rows from row `first` on, and halves V.
+// Step 2 of the garbler, at all levels: adds its parts to the new wires, writes the rows after the one-hot rows, and halves V.
+// The arguments stay apart, as in `gate::garble_labels`.
 pub fn garble_levels<L: Label, H: LabelHash<L>>(
     h: &mut H,
     gate: u32,
-    m: u32,
     offset: L,
     zeros: &[L],
     nums: &[u16],
     v: &mut [L],
-    w: usize,
     new: &mut [L],
     material: &mut [u8],
-    first: usize,
 )
-    requires small { (m ≤ 16) × ((length new.old ≡ m) × (length zeros.now ≤ 8)) }
-    requires long { (w ≡ 2 ^ length zeros.now) × ((w ≤ length v.old) × (((first + length zeros.now * m) * L.kind.width ≤ length material.old) × (w + w ≤ length nums.now))) }
-    requires there { Numbered L.kind (H.means h.old) gate m (length zeros.now) offset (λ k. based L.kind offset (places L.kind zeros.now k)) nums.now }
-    ensures news { Holds L.kind m (λ j. L.kind.xor (places L.kind new.old j) (sum L.kind (length zeros.now) (λ d. share_of L.kind (H.means h.old) gate m (length zeros.now) offset (λ k. based L.kind offset (places L.kind zeros.now k)) (places L.kind v.old) d false j))) new.new }
-    ensures rows { (d : ℕ) → d < length zeros.now → (j : ℕ) → j < m → row_bytes L.kind (first + (d * m + j)) material.new ≡ L.kind.bytes (mask_row L.kind (H.means h.old) gate m (length zeros.now) offset (λ k. based L.kind offset (places L.kind zeros.now k)) (places L.kind v.old) d j) }
-    ensures before { (i : ℕ) → i < first → row_bytes L.kind i material.new ≡ row_bytes L.kind i material.old }
-    ensures ran { Ran (H.means h.old) (H.means h.new) (H.calls h.old) (H.calls h.new) (2 * (length zeros.now * m)) }
+    requires small { length new.old ≤ 16 }
+    requires few { length zeros.now ≤ 8 }
+    requires labels { 2 ^ length zeros.now ≤ length v.old }
+    requires numbers { 2 * 2 ^ length zeros.now ≤ length nums.now }
+    requires room { labels_of (length zeros.now) (length new.old) * L.kind.width ≤ length material.old }
+    requires there { Numbered L.kind (H.means h.old) gate (length new.old) (length zeros.now) offset (bases L.kind offset zeros.now) nums.now }
+    ensures news { Holds L.kind (length new.old) (λ j. L.kind.xor (places L.kind new.old j) (sum L.kind (length zeros.now) (λ d. share_of L.kind (H.means h.old) gate (length new.old) (length zeros.now) offset (bases L.kind offset zeros.now) (places L.kind v.old) d false j))) new.new }
+    ensures rows { (d : ℕ) → d < length zeros.now → (j : ℕ) → j < length new.old → row_bytes L.kind (length zeros.now - 1 + (d * length new.old + j)) material.new ≡ L.kind.bytes (mask_row L.kind (H.means h.old) gate (length new.old) (length zeros.now) offset (bases L.kind offset zeros.now) (places L.kind v.old) d j) }
+    ensures before { (i : ℕ) → i < length zeros.now - 1 → row_bytes L.kind i material.new ≡ row_bytes L.kind i material.old }
+    ensures ran { Ran (H.means h.old) (H.means h.new) (H.calls h.old) (H.calls h.new) (2 * (length zeros.now * length new.old)) }
 {
-    let mut half = w;
-    let mut at = first;
     let n = zeros.len();
+    let m = new.len();
+    // By number: hashes and rows name a level by its number, from n down.
     for d in 0..n {
         let l = level_after(n, d);
         let key = base(offset, zeros[l - 1]);
-        let from = half;
-        half /= 2;
-        garble_level(
-            h, gate, l, half, offset, key, nums, from, v, new, material, at,
-        );
-        halve(v, half);
-        at += new.len();
+        let level = Level {
+            gate,
+            l,
+            key,
+            row: n - 1 + d * m,
+        };
+        let w = 1 << l;
+        let v = &mut v[..w];
+        garble_level(h, level, offset, &nums[w..w + w], v, new, material);
+        halve(v);
     }
 }
 
@@ -124,82 +137,93 @@ fn unmasked<L: Label>(b: bool, part: L, row: L) -> L
     part.xor(times(b, row))
 }
 
-// The evaluator's level l: adds its parts to the new wires, from the material's rows from row `at` on.
+// The evaluator's level: adds its parts to the new wires, from its rows of the material.
 fn evaluate_level<L: Label, H: LabelHash<L>>(
     h: &mut H,
-    gate: u32,
-    l: usize,
-    w: usize,
-    key: L,
+    level: Level<L>,
     nums: &[u16],
     v: &[L],
     new: &mut [L],
     material: &[u8],
-    at: usize,
 )
-    requires small { (length new.old ≤ 16) × (l ≤ 8) }
-    requires long { (w ≤ length nums.now) × ((w + w ≤ length v.now) × ((at + length new.old) * L.kind.width ≤ length material.now)) }
-    ensures news { Holds L.kind (length new.old) (λ j. L.kind.xor (places L.kind new.old j) (L.kind.xor (masked L.kind (H.means h.old) gate l w (λ i. slice_index nums.now i) key (L.kind.colour key) (places L.kind v.now) j) (scaled L.kind (L.kind.colour key) (row_at L.kind material.now (at + j))))) new.new }
+    requires small { length new.old ≤ 16 }
+    requires labels { length v.now ≡ 2 ^ level.l }
+    requires numbers { length nums.now ≡ 2 ^ (level.l - 1) }
+    requires room { (level.row + length new.old) * L.kind.width ≤ length material.now }
+    ensures news { Holds L.kind (length new.old) (λ j. L.kind.xor (places L.kind new.old j) (L.kind.xor (masked L.kind (H.means h.old) level.gate level.l (2 ^ (level.l - 1)) (λ i. slice_index nums.now i) level.key (L.kind.colour level.key) (places L.kind v.now) j) (scaled L.kind (L.kind.colour level.key) (row_at L.kind material.now (level.row + j))))) new.new }
     ensures ran { Ran (H.means h.old) (H.means h.new) (H.calls h.old) (H.calls h.new) (length new.old) }
 {
-    let b = key.colour();
-    for j in 0..new.len() {
-        let part = mask(h, gate, l, w, key, b, nums, 0, v, j);
-        let row: L = get_row(material, at + j);
-        new[j] = new[j].xor(unmasked(b, part, row));
+    let b = level.key.colour();
+    let w = 1 << (level.l - 1);
+    let start = weight(b, w);
+    for (j, label) in new.iter_mut().enumerate() {
+        let part = mask(
+            h,
+            level.gate,
+            level.l,
+            level.key,
+            nums,
+            &v[start..start + w],
+            j,
+        );
+        let row: L = get_row(material, level.row + j);
+        *label = label.xor(unmasked(b, part, row));
     }
 }
 
-// The evaluator's level l, and then the halving of V.
+// The evaluator's level, and then the halving of V.
 fn evaluate_then_halve<L: Label, H: LabelHash<L>>(
     h: &mut H,
-    gate: u32,
-    l: usize,
-    w: usize,
-    key: L,
+    level: Level<L>,
     nums: &[u16],
     v: &mut [L],
     new: &mut [L],
     material: &[u8],
-    at: usize,
 )
-    requires small { (length new.old ≤ 16) × (l ≤ 8) }
-    requires long { (w ≤ length nums.now) × ((w + w ≤ length v.old) × ((at + length new.old) * L.kind.width ≤ length material.now)) }
-    ensures news { Holds L.kind (length new.old) (λ j. L.kind.xor (places L.kind new.old j) (L.kind.xor (masked L.kind (H.means h.old) gate l w (λ i. slice_index nums.now i) key (L.kind.colour key) (places L.kind v.old) j) (scaled L.kind (L.kind.colour key) (row_at L.kind material.now (at + j))))) new.new }
-    ensures halved { Holds L.kind w (λ i. L.kind.xor (places L.kind v.old i) (places L.kind v.old (i + w))) v.new }
+    requires small { length new.old ≤ 16 }
+    requires labels { length v.old ≡ 2 ^ level.l }
+    requires numbers { length nums.now ≡ 2 ^ (level.l - 1) }
+    requires room { (level.row + length new.old) * L.kind.width ≤ length material.now }
+    ensures news { Holds L.kind (length new.old) (λ j. L.kind.xor (places L.kind new.old j) (L.kind.xor (masked L.kind (H.means h.old) level.gate level.l (2 ^ (level.l - 1)) (λ i. slice_index nums.now i) level.key (L.kind.colour level.key) (places L.kind v.old) j) (scaled L.kind (L.kind.colour level.key) (row_at L.kind material.now (level.row + j))))) new.new }
+    ensures halved { Holds L.kind (length v.old / 2) (λ i. L.kind.xor (places L.kind v.old i) (places L.kind v.old (i + length v.old / 2))) v.new }
     ensures ran { Ran (H.means h.old) (H.means h.new) (H.calls h.old) (H.calls h.new) (length new.old) }
 {
-    evaluate_level(h, gate, l, w, key, nums, v, new, material, at);
-    halve(v, w);
+    evaluate_level(h, level, nums, v, new, material);
+    halve(v);
 }
 
-// Step 2 of the evaluator, at all levels: adds its parts to the new wires, and halves V. The rows begin at row `first`.
+// Step 2 of the evaluator, at all levels: adds its parts to the new wires, from the rows after the one-hot rows, and halves V.
 pub fn evaluate_levels<L: Label, H: LabelHash<L>>(
     h: &mut H,
     gate: u32,
-    m: u32,
     labels: &[L],
     material: &[u8],
-    first: usize,
     v: &mut [L],
-    w: usize,
     new: &mut [L],
 )
-    requires small { (m ≤ 16) × ((length new.old ≡ m) × (length labels.now ≤ 8)) }
-    requires long { (w ≡ 2 ^ length labels.now) × ((w ≤ length v.old) × ((first + length labels.now * m) * L.kind.width ≤ length material.now)) }
-    ensures news { Holds L.kind m (λ j. L.kind.xor (places L.kind new.old j) (sum L.kind (length labels.now) (λ d. taken L.kind (H.means h.old) gate m (length labels.now) (λ d j. row_at L.kind material.now (first + (d * m + j))) (places L.kind labels.now) (places L.kind v.old) d j))) new.new }
-    ensures ran { Ran (H.means h.old) (H.means h.new) (H.calls h.old) (H.calls h.new) (w - 1 + length labels.now * m) }
+    requires small { length new.old ≤ 16 }
+    requires few { length labels.now ≤ 8 }
+    requires places { 2 ^ length labels.now ≤ length v.old }
+    requires room { labels_of (length labels.now) (length new.old) * L.kind.width ≤ length material.now }
+    ensures news { Holds L.kind (length new.old) (λ j. L.kind.xor (places L.kind new.old j) (sum L.kind (length labels.now) (λ d. taken L.kind (H.means h.old) gate (length new.old) (length labels.now) (mask_rows L.kind (length labels.now) (length new.old) material.now) (places L.kind labels.now) (places L.kind v.old) d j))) new.new }
+    ensures ran { Ran (H.means h.old) (H.means h.new) (H.calls h.old) (H.calls h.new) (2 ^ length labels.now - 1 + length labels.now * length new.old) }
 {
-    let mut nums = [0u16; 128];
-    let mut half = w;
-    let mut at = first;
+    let mut numbers = [0u16; 128];
     let n = labels.len();
+    let m = new.len();
+    // By number: hashes and rows name a level by its number, from n down.
     for d in 0..n {
         let l = level_after(n, d);
         let key = labels[l - 1];
-        half /= 2;
-        pick(h, gate, m, half, key, &mut nums, 0);
-        evaluate_then_halve(h, gate, l, half, key, &nums, v, new, material, at);
-        at += new.len();
+        let level = Level {
+            gate,
+            l,
+            key,
+            row: n - 1 + d * m,
+        };
+        let nums = &mut numbers[..1 << (l - 1)];
+        pick(h, gate, m as u32, key, nums);
+        let v = &mut v[..1 << l];
+        evaluate_then_halve(h, level, nums, v, new, material);
     }
 }

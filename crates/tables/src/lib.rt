@@ -1,4 +1,5 @@
 // The lookup-table gate, once for all label kinds and hashes.
+// How long lent slices are stands in each contract: memory is lent as slices, and a slice carries no ghost field.
 #![tactic(auto)]
 
 pub mod gate;

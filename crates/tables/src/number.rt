@@ -19,7 +19,7 @@ pub fn weight(b: bool, w: usize) -> usize
     ensures value { result ≡ (if b then 1 else 0) * w }
     ensures within { result ≤ w }
 {
-    if b { w } else { 0 }
+    usize::from(b) * w
 }
 
 // The level that d halvings leave, of n.
@@ -43,10 +43,8 @@ pub fn colours<L: Label>(labels: &[L]) -> usize
     ensures { result ≡ of_colours L.kind (length labels.now) (places L.kind labels.now) }
 {
     let mut number = 0;
-    let mut w = 1;
-    for k in 0..labels.len() {
-        number += weight(labels[k].colour(), w);
-        w += w;
+    for (k, label) in labels.iter().enumerate() {
+        number += weight(label.colour(), 1 << k);
     }
     number
 }

@@ -1,9 +1,9 @@
 // Step 1 of the table gate: the one-hot labels V.
 ghost use Rattle.std.specs.Prelude.{◌≡◌, ℕ, suc, ◌+◌, ◌-◌, ◌*◌, ◌^◌, ◌<◌, ◌≤◌, length, slice_set};
-ghost use Rattle.tables.specs.Level.{between, Grew, Holds};
+ghost use Rattle.tables.specs.Level.{bases, between, Grew, Holds};
 ghost use Rattle.tables.specs.Material.{row_bytes, one_hot_rows};
 ghost use Rattle.tables.specs.Ran.{Ran};
-ghost use Rattle.tables.specs.Table.{places, sum, hashed, grown, filled, based, hot, seen, hot_row};
+ghost use Rattle.tables.specs.Table.{places, sum, hashed, grown, filled, hot, seen, hot_row};
 
 use crate::number::{base, weight};
 use crate::rows::{get_row, put_row};
@@ -20,12 +20,16 @@ fn hash_part<L: Label, H: LabelHash<L>>(
     a: usize,
     b: usize,
 ) -> L
-    requires { (w + w ≤ length v.old) × ((w ≤ 128) × ((a ≤ b) × (b ≤ w))) }
+    requires room { w + w ≤ length v.old }
+    requires few { w ≤ 128 }
+    requires ordered { a ≤ b }
+    requires within { b ≤ w }
     ensures answer { result ≡ between L.kind a b (hashed L.kind (H.means h.old) gate w (places L.kind v.old)) }
     ensures grew { Grew L.kind w a b (places L.kind v.old) (hashed L.kind (H.means h.old) gate w (places L.kind v.old)) v.new }
     ensures ran { Ran (H.means h.old) (H.means h.new) (H.calls h.old) (H.calls h.new) (b - a) }
 {
     let mut all = L::zero();
+    // By number: place i is written beside place w + i, and hashed by its number.
     for i in a..b {
         let x = v[i];
         let c = h.hash(x, tweak(gate, w + i));
@@ -38,7 +42,8 @@ fn hash_part<L: Label, H: LabelHash<L>>(
 
 // The garbler's level, from w places to 2 w. Answers the ⊕ of all c(i).
 fn grow<L: Label, H: LabelHash<L>>(h: &mut H, gate: u32, v: &mut [L], w: usize) -> L
-    requires { (w + w ≤ length v.old) × (w ≤ 128) }
+    requires room { w + w ≤ length v.old }
+    requires few { w ≤ 128 }
     ensures answer { result ≡ sum L.kind w (hashed L.kind (H.means h.old) gate w (places L.kind v.old)) }
     ensures front { Holds L.kind (w + w) (grown L.kind w (places L.kind v.old) (hashed L.kind (H.means h.old) gate w (places L.kind v.old))) v.new }
     ensures ran { Ran (H.means h.old) (H.means h.new) (H.calls h.old) (H.calls h.new) w }
@@ -48,7 +53,8 @@ fn grow<L: Label, H: LabelHash<L>>(h: &mut H, gate: u32, v: &mut [L], w: usize) 
 
 // Fills the place x that the evaluator lacks, of w places: c there, and the label that V[x] becomes.
 fn fill_place<L: Label>(v: &mut [L], w: usize, x: usize, c: L, lower: L)
-    requires { (w + w ≤ length v.old) × (x < w) }
+    requires room { w + w ≤ length v.old }
+    requires within { x < w }
     ensures { v.new ≡ slice_set (slice_set v.old (w + x) c) x lower }
 {
     v[w + x] = c;
@@ -64,7 +70,9 @@ fn grow_around<L: Label, H: LabelHash<L>>(
     x: usize,
     whole: L,
 )
-    requires { (w + w ≤ length v.old) × ((w ≤ 128) × (x < w)) }
+    requires room { w + w ≤ length v.old }
+    requires few { w ≤ 128 }
+    requires within { x < w }
     ensures front { Holds L.kind (w + w) (grown L.kind w (places L.kind v.old) (filled L.kind w x whole (hashed L.kind (H.means h.old) gate w (places L.kind v.old)))) v.new }
     ensures ran { Ran (H.means h.old) (H.means h.new) (H.calls h.old) (H.calls h.new) (w - 1) }
 {
@@ -84,19 +92,20 @@ pub fn garble_one_hot<L: Label, H: LabelHash<L>>(
     v: &mut [L],
     material: &mut [u8],
 )
-    requires { (1 ≤ length zeros.now) × ((length zeros.now ≤ 8) × ((2 ^ length zeros.now ≤ length v.old) × ((length zeros.now - 1) * L.kind.width ≤ length material.old))) }
-    ensures front { Holds L.kind (2 ^ length zeros.now) (hot L.kind (H.means h.old) gate offset (λ k. based L.kind offset (places L.kind zeros.now k)) (length zeros.now)) v.new }
-    ensures rows { (k : ℕ) → k < length zeros.now - 1 → row_bytes L.kind k material.new ≡ L.kind.bytes (hot_row L.kind (H.means h.old) gate offset (λ k. based L.kind offset (places L.kind zeros.now k)) (suc k)) }
+    requires some { 1 ≤ length zeros.now }
+    requires few { length zeros.now ≤ 8 }
+    requires places { 2 ^ length zeros.now ≤ length v.old }
+    requires room { (length zeros.now - 1) * L.kind.width ≤ length material.old }
+    ensures front { Holds L.kind (2 ^ length zeros.now) (hot L.kind (H.means h.old) gate offset (bases L.kind offset zeros.now) (length zeros.now)) v.new }
+    ensures rows { (k : ℕ) → k < length zeros.now - 1 → row_bytes L.kind k material.new ≡ L.kind.bytes (hot_row L.kind (H.means h.old) gate offset (bases L.kind offset zeros.now) (suc k)) }
     ensures ran { Ran (H.means h.old) (H.means h.new) (H.calls h.old) (H.calls h.new) (2 ^ length zeros.now - 2) }
 {
     let first = base(offset, zeros[0]);
     v[0] = first.xor(offset);
     v[1] = first;
-    let mut w = 2;
-    for j in 1..zeros.len() {
-        let all = grow(h, gate, v, w);
-        put_row(material, j - 1, base(offset, zeros[j]).xor(all));
-        w += w;
+    for (k, zero) in zeros[1..].iter().enumerate() {
+        let all = grow(h, gate, v, 1 << (k + 1));
+        put_row(material, k, base(offset, *zero).xor(all));
     }
 }
 
@@ -108,20 +117,21 @@ pub fn evaluate_one_hot<L: Label, H: LabelHash<L>>(
     material: &[u8],
     v: &mut [L],
 )
-    requires { (1 ≤ length labels.now) × ((length labels.now ≤ 8) × ((2 ^ length labels.now ≤ length v.old) × ((length labels.now - 1) * L.kind.width ≤ length material.now))) }
+    requires some { 1 ≤ length labels.now }
+    requires few { length labels.now ≤ 8 }
+    requires places { 2 ^ length labels.now ≤ length v.old }
+    requires room { (length labels.now - 1) * L.kind.width ≤ length material.now }
     ensures front { Holds L.kind (2 ^ length labels.now) (seen L.kind (H.means h.old) gate (one_hot_rows L.kind material.now) (places L.kind labels.now) (length labels.now)) v.new }
     ensures ran { Ran (H.means h.old) (H.means h.new) (H.calls h.old) (H.calls h.new) (2 ^ length labels.now - 1 - length labels.now) }
 {
     let first = labels[0];
     v[0] = first;
     v[1] = first;
-    let mut w = 2;
     let mut x = weight(first.colour(), 1);
-    for j in 1..labels.len() {
-        let e = labels[j];
-        let row: L = get_row(material, j - 1);
-        grow_around(h, gate, v, w, x, row.xor(e));
-        x += weight(e.colour(), w);
-        w += w;
+    for (k, label) in labels[1..].iter().enumerate() {
+        let w = 1 << (k + 1);
+        let row: L = get_row(material, k);
+        grow_around(h, gate, v, w, x, row.xor(*label));
+        x += weight(label.colour(), w);
     }
 }

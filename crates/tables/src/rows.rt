@@ -22,10 +22,10 @@ pub fn get_row<L: Label>(material: &[u8], k: usize) -> L
     rows::get(material, k * L::width())
 }
 
-// Row i of the circuit's table.
+// Row i of the circuit's table. A word is read here too, since this crate knows no format of circuits.
 pub fn table_row(rows: &[u8], i: usize) -> u16
     requires { 2 * i + 1 < length rows.now }
     ensures { result ≡ row_word rows.now i }
 {
-    u16::from(rows[2 * i]) + 256 * u16::from(rows[2 * i + 1])
+    u16::from_le_bytes([rows[2 * i], rows[2 * i + 1]])
 }

@@ -5,18 +5,11 @@ ghost use Rattle.std.specs.Prelude.{◌≡◌, ◌+◌, ◌<◌, ◌≤◌, leng
 ghost use Rattle.wires.specs.Wires.{Grown};
 
 // A gate of several new wires is lent `values` from `made` on, and then moves `made`.
+// That `made` stays within `values` is no ghost field: `new` would then refuse a store that it takes today.
 #[derive(Drop)]
 pub struct Wires<'a, T> {
     pub values: &'a mut [T],
     pub made: usize,
-}
-
-// The value at a place.
-fn at<T: Copy>(xs: &[T], w: usize) -> T
-    requires { w < length xs.now }
-    ensures { (d : T) → result ≡ slice_index_or xs.now w d }
-{
-    xs[w]
 }
 
 impl<'a, T: Copy> Wires<'a, T> {
@@ -33,7 +26,7 @@ impl<'a, T: Copy> Wires<'a, T> {
         requires { (w < self.now.made) × (self.now.made ≤ length self.now.values.now) }
         ensures { (d : T) → result ≡ slice_index_or self.now.values.now w d }
     {
-        at(self.values, usize::from(w))
+        self.values[usize::from(w)]
     }
 
     // Makes the next wire.

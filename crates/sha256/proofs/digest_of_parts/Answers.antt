@@ -20,6 +20,6 @@ returns c =
     let tail = rest ++ padding c.args.total in
     let before : State = hashed initial body (length body / 64) in
     let after : State → State = λ s. hashed s tail (length tail / 64) in
-    let absorbed : c.absorb-state.result ≡ before = c.absorb-state.ensures ∙ ap (λ (s : State). hashed s body (length body / 64)) c.initial_state.ensures in
+    let absorbed : c.absorb-state.result ≡ before = c.absorb-state.ensures in
     let last : c.finish.result ≡ after before = ◌∙◌ {b = after c.absorb-state.result} c.finish.ensures (ap after absorbed) in
     c.write.ensures ∙ ap output last ∙ digest_split body rest tail c.requires.whole (ap (λ (n : ℕ). rest ++ padding n) (sym c.requires.all))

@@ -1,15 +1,16 @@
-use Rattle.std.proofs.Common.{◌≡◌, ℕ, List, ◌++◌, replicate, ◌∙◌}
-use borrow.Rule.Slice.PartMut.{put_mid}
-use Rattle.sha256.specs.Words.{four}
-use Rattle.sha256.specs.declared.state.State.{State}
+use Rattle.std.proofs.Common.{[], ap, ◌∙◌}
+use Rattle.std.specs.List.{flat_map}
+use Rattle.std.specs.Int.{w32, to_be_bytes}
+use Rattle.std.proofs.lemmas.List.FromFn.{fill_by_all}
+use Rattle.std.proofs.Common.{ℕ, List, ◌∷◌, get_or}
 use Rattle.sha256.specs.Digest.{output}
 use Rattle.sha256.proofs.write.Goals as goal
 
-put : (A B : List ℕ) (s : State) → A ≡ four s.a ++ (four s.b ++ (four s.c ++ four s.d)) → B ≡ four s.e ++ (four s.f ++ (four s.g ++ four s.h))
-    → put_mid 16 16 (A ++ replicate 16 0) B ≡ output s
-unfolding output
-put A B s p q = rw (p, q)
-
 pub returns : goal.returns
+unfolding output
 returns c =
-    put c.copy_from_slice.new.self c.copy_from_slice-2.new.self c.args.s (c.copy_from_slice.ensures.after ∙ c.four_words.ensures) (c.copy_from_slice-2.ensures.after ∙ c.four_words-2.ensures)
+    let s = c.args.s in
+    let words : List ℕ = s.a ∷ s.b ∷ s.c ∷ s.d ∷ s.e ∷ s.f ∷ s.g ∷ s.h ∷ [] in
+    let map = c.map.ensures.items in
+    let all = fill_by_all (λ (i : ℕ). to_be_bytes w32 (get_or words i 0)) c.map.result 8 [] map.long (λ i h. (map.at i 0 [] h).2.met) in
+    c.copy_from_slice.ensures.after ∙ c.as_flattened.ensures.value ∙ ap (flat_map (λ (bytes : List ℕ). bytes)) all

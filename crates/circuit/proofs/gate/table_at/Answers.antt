@@ -1,9 +1,11 @@
 use Rattle.std.proofs.Common.{◌≡◌, ℕ, ◌+◌, ◌-◌, ◌*◌, ◌/◌, ◌≤◌, List, length, take, sym, ap, ◌∙◌, arith, rules}
+use Rattle.std.proofs.lemmas.Result.{err_from_is_err_and}
 use Rattle.circuit.specs.Lent.{parts_in}
 use Rattle.circuit.specs.Words.{part, word_at}
 use Rattle.circuit.specs.Parts.{Parts}
 use Rattle.circuit.specs.Gates.{form_of, place_of, rows_from}
 use Rattle.std.proofs.lemmas.List.{length-take-le}
+use Rattle.circuit.proofs.Wholes.{whole_in}
 use Rattle.circuit.proofs.Shapes.{table_unknown, operands_past, rows_past, table_fits, is_table_form}
 use Rattle.circuit.proofs.Stretches.{word_of_part, part_front, length_part}
 use Rattle.circuit.proofs.gate.table_at.Goals as goal
@@ -22,47 +24,40 @@ from c g f p k i first words ef ep ek ei w e =
 
 pub returns-then-not-table_form : goal.returns-then-not-table_form
 returns-then-not-table_form c =
-    table_unknown (parts_in c.args.a) c.args.g c.args.form c.args.place c.requires.formed c.requires.placed c.requires.whole c.requires.high (sym c.if-not-table_form.ensures)
+    table_unknown (parts_in c.args.a) c.args.g c.args.form c.args.place c.requires.formed c.requires.placed (whole_in c.args.a) c.requires.high (sym c.if-not-table_form.ensures)
 
-pub returns-in_default : goal.returns-in_default
-returns-in_default c =
-    operands_past (parts_in c.args.a) c.args.g c.args.form c.args.place c.requires.formed c.requires.placed c.requires.whole c.requires.high (sym c.if-not-table_form.ensures)
-    (omega (arith, c.in_default.ensures))
+pub returns-in_err-words : goal.returns-in_err-words
+returns-in_err-words c =
+    let p = err_from_is_err_and c.from_residual.result c.from_residual.ensures.1 in
+    let e = c.in_err-words.ensures in
+    let l = e.1 in
+    rw (p.1, p.2, e.0) (operands_past (parts_in c.args.a) c.args.g c.args.form c.args.place c.requires.formed c.requires.placed (whole_in c.args.a) c.requires.high (sym c.if-not-table_form.ensures) (omega arith))
 
-pub word_at-first-requires : goal.word_at-first-requires
-word_at-first-requires c =
-    let s = c.in-Some.ensures in
-    let l : length c.in-Some.words.now ≡ 2 * (c.args.form / 256 + 1) = long c.in-Some.words.now _ _ _ _ c.from.ensures s.0 s.1 in
-    omega arith
-
-pub returns-in_default-stretch : goal.returns-in_default-stretch
-returns-in_default-stretch c =
-    let s = c.in-Some.ensures in
-    let r = from (parts_in c.args.a) c.args.g c.args.form c.args.place c.from.result c.from-2.result c.word_at-first.result c.in-Some.words.now c.requires.formed c.requires.placed c.from.ensures c.from-2.ensures s.1 c.word_at-first.ensures in
-    rows_past (parts_in c.args.a) c.args.g c.args.form c.args.place c.requires.formed c.requires.placed c.requires.whole c.requires.high (sym c.if-not-table_form.ensures)
-    c.word_at-first.result r (omega (arith, c.in_default-stretch.ensures))
-
-pub slice_bounds-result-end : goal.slice_bounds-result-end
-slice_bounds-result-end c =
-    let s = c.in-Some.ensures in
-    let l : length c.in-Some.words.now ≡ 2 * (c.args.form / 256 + 1) = long c.in-Some.words.now _ _ _ _ c.from.ensures s.0 s.1 in
-    search rules
+pub returns-in_err-rows : goal.returns-in_err-rows
+returns-in_err-rows c =
+    let s = c.in_ok-words.ensures in
+    let r = from (parts_in c.args.a) c.args.g c.args.form c.args.place c.from.result c.from-2.result c.word_at-first.result c.in_ok-words.words.now c.requires.formed c.requires.placed c.from.ensures c.from-2.ensures s.1 c.word_at-first.ensures in
+    let p = err_from_is_err_and c.from_residual-in_err-rows.result c.from_residual-in_err-rows.ensures.1 in
+    let e = c.in_err-rows.ensures in
+    let l = e.1 in
+    rw (p.1, p.2, e.0) (rows_past (parts_in c.args.a) c.args.g c.args.form c.args.place c.requires.formed c.requires.placed (whole_in c.args.a) c.requires.high (sym c.if-not-table_form.ensures)
+    c.word_at-first.result r (omega arith))
 
 pub returns : goal.returns
 returns c =
-    let s = c.in-Some.ensures in
-    let t = c.in-Some-stretch.ensures in
+    let s = c.in_ok-words.ensures in
+    let t = c.in_ok-rows.ensures in
     let is = sym c.if-not-table_form.ensures in
-    let r = from (parts_in c.args.a) c.args.g c.args.form c.args.place c.from.result c.from-2.result c.word_at-first.result c.in-Some.words.now c.requires.formed c.requires.placed c.from.ensures c.from-2.ensures s.1 c.word_at-first.ensures in
+    let r = from (parts_in c.args.a) c.args.g c.args.form c.args.place c.from.result c.from-2.result c.word_at-first.result c.in_ok-words.words.now c.requires.formed c.requires.placed c.from.ensures c.from-2.ensures s.1 c.word_at-first.ensures in
     let f = part_front c.args.place (c.from.result + 1) c.from.result c.args.a.operands.now (omega arith) in
     let z : 2 * c.from-3.result - 0 ≡ 2 * c.from.result = omega arith in
-    let o : take (2 * c.from-3.result - 0) c.in-Some.words.now ≡ part (place_of (parts_in c.args.a) c.args.g) (c.args.form / 256) c.args.a.operands.now = cc in
-    let l : length c.in-Some.words.now ≡ 2 * (c.args.form / 256 + 1) = long c.in-Some.words.now _ _ _ _ c.from.ensures s.0 s.1 in
-    let m : length (take (2 * c.from-3.result - 0) c.in-Some.words.now) ≡ 2 * (c.args.form / 256) = search (rules, length-take-le) in
+    let o : take (2 * c.from-3.result - 0) c.in_ok-words.words.now ≡ part (place_of (parts_in c.args.a) c.args.g) (c.args.form / 256) c.args.a.operands.now = cc in
+    let l : length c.in_ok-words.words.now ≡ 2 * (c.args.form / 256 + 1) = long c.in_ok-words.words.now _ _ _ _ c.from.ensures s.0 s.1 in
+    let m : length (take (2 * c.from-3.result - 0) c.in_ok-words.words.now) ≡ 2 * (c.args.form / 256) = search (rules, length-take-le) in
     let k = length_part c.word_at-first.result c.two_to.result c.args.a.rows.now t.0 in (
-      table_fits (parts_in c.args.a) c.args.g c.args.form c.args.place c.requires.formed c.requires.placed c.requires.whole c.requires.high is c.word_at-first.result r (omega arith) (omega (arith, t.0)),
+      table_fits (parts_in c.args.a) c.args.g c.args.form c.args.place c.requires.formed c.requires.placed (whole_in c.args.a) c.requires.high is c.word_at-first.result r (omega arith) (omega (arith, t.0)),
       (
-        is_table_form (parts_in c.args.a) c.args.g c.args.form c.args.place c.requires.formed c.requires.placed c.requires.whole c.requires.high is,
+        is_table_form (parts_in c.args.a) c.args.g c.args.form c.args.place c.requires.formed c.requires.placed (whole_in c.args.a) c.requires.high is,
         (cc),
         (cc),
         o,

@@ -1,18 +1,16 @@
-use Rattle.std.proofs.Common.{ℕ, sym, ap, ◌∙◌, arith, below_more}
+use Rattle.std.proofs.Common.{◌≡◌, true, false, rules}
+use borrow.Author.Tests.{tests}
+use Rattle.std.proofs.lemmas.Iterator.{first_from_Range}
 use Rattle.parties.specs.Marks.{is_marked}
-use Rattle.parties.proofs.Marking.{marked_all}
+use Rattle.parties.proofs.Marking.{lowest_found, none_found}
 use Rattle.evaluator.proofs.missing.unmarked.Goals as goal
 
-pub returns-then-not-side-from : goal.returns-then-not-side-from
-returns-then-not-side-from c = record {
-  below = c.loop-i-test.true;
-  unmarked = ap (λ (k : ℕ). is_marked c.args.side.now.marks k) (sym c.from.ensures) ∙ c.if-not-side-from.true;
-  least = c.loop-i.invariant;
-}
+pub returns-clause-all : goal.returns-clause-all
+returns-clause-all c =
+    let marks = c.args.progress.now.side.marks in
+    none_found marks _ c.find.result (first_from_Range _ _ _ c.find.result (λ i. is_marked marks i ≡ false) (λ i. is_marked marks i ≡ true) c.find.ensures.ran (λ i q e. search (rules, tests)) (λ i q e. search (rules, tests)))
 
-pub loop-i-preserved : goal.loop-i-preserved
-loop-i-preserved c =
-    below_more _ _ c.loop-i.invariant (ap (λ (k : ℕ). is_marked c.args.side.now.marks k) (sym c.from.ensures) ∙ c.if-not-side-from.false)
-
-pub returns : goal.returns
-returns c = marked_all c.args.side.now.marks c.args.side.now.sizes.inputs (λ k l. c.loop-i.invariant k (omega arith))
+pub returns-clause-lowest : goal.returns-clause-lowest
+returns-clause-lowest c =
+    let marks = c.args.progress.now.side.marks in
+    lowest_found marks _ c.find.result (first_from_Range _ _ _ c.find.result (λ i. is_marked marks i ≡ false) (λ i. is_marked marks i ≡ true) c.find.ensures.ran (λ i q e. search (rules, tests)) (λ i q e. search (rules, tests)))

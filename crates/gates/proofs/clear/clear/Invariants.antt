@@ -1,5 +1,5 @@
-use Rattle.std.proofs.Common.{◌≡◌, ℕ, ◌<◌, get_or}
+use Rattle.std.proofs.Common.{◌≡◌, ℕ, ◌<◌, slice_index_or}
 use Rattle.gates.proofs.clear.clear.Given as goal
 
-abbrev pub invariant-loop-i : goal.invariant-loop-i
-invariant-loop-i g l = let z = g.L.Label.kind.zero in (k : ℕ) → k < l.i → get_or l.labels k z ≡ z
+abbrev pub invariant-loop-label : goal.invariant-loop-label
+invariant-loop-label g l = let zero = g.L.Label.kind.zero in (k : ℕ) → k < l.label-index → slice_index_or l.labels k zero ≡ zero

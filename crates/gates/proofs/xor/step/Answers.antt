@@ -1,5 +1,5 @@
 use Rattle.gates.proofs.Halves.{xor_meets}
 use Rattle.gates.proofs.xor.step.Goals as goal
 
-pub returns : goal.returns
-returns g c = record { answer = c.both.ensures; meets = xor_meets g.L.Label.kind _ _ _ c.both.ensures }
+pub returns-clause-meets : goal.returns-clause-meets
+returns-clause-meets g c = xor_meets g.L.Label.kind _ _ _ c.xor.ensures

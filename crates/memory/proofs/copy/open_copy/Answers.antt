@@ -1,4 +1,4 @@
-use Rattle.std.proofs.Common.{◌≡◌, ℕ, ◌-◌, ◌++◌, length, drop, ap, ◌∙◌, ap₂, arith}
+use Rattle.std.proofs.Common.{◌≡◌, ℕ, List, ◌++◌, length, drop, ap, ◌∙◌, arith}
 use Rattle.std.proofs.lemmas.List.{length-take-le}
 use Rattle.circuit.specs.Header.{sizes_of}
 use Rattle.circuit.specs.Parts.{Parts}
@@ -13,8 +13,8 @@ write_copy-requires c =
     let gates : c.from.result ≡ (sizes_of bytes).gates = c.from.ensures ∙ ap (λ (q : Parts). q.sizes.gates) p.parts in
     let operands : c.from-2.result ≡ (sizes_of bytes).operands = c.from-2.ensures ∙ ap (λ (q : Parts). q.sizes.operands) p.parts in
     let rows : c.from-3.result ≡ (sizes_of bytes).rows = c.from-3.ensures ∙ ap (λ (q : Parts). q.sizes.rows) p.parts in
-    let n = length-take-le (length bytes - 0) c.args.out.now (omega arith) in
-    (omega arith, (omega arith, omega arith))
+    let n = length-take-le (length bytes) c.args.out.now (omega arith) in
+    record { long = omega arith; order = omega arith; within = omega arith }
 
 pub returns : goal.returns
 returns c =
@@ -24,7 +24,9 @@ returns c =
     let gates : c.from.result ≡ (sizes_of bytes).gates = c.from.ensures ∙ ap (λ (q : Parts). q.sizes.gates) p.parts in
     let operands : c.from-2.result ≡ (sizes_of bytes).operands = c.from-2.ensures ∙ ap (λ (q : Parts). q.sizes.operands) p.parts in
     let rows : c.from-3.result ≡ (sizes_of bytes).rows = c.from-3.ensures ∙ ap (λ (q : Parts). q.sizes.rows) p.parts in
-    let all : length bytes - 0 ≡ length bytes = omega arith in (
-      copy_passes bytes (length out) p.passes (omega arith),
-      ap₂ ◌++◌ (c.write_copy.ensures ∙ copy_is bytes c.from.result c.from-2.result c.from-3.result gates operands rows) (ap (λ (k : ℕ). drop k out) all),
-    )
+    record {
+      accepted = copy_passes bytes (length out) p.passes (omega arith);
+      copied = ap (λ (t : List ℕ). t ++ drop (length bytes) out) (c.write_copy.ensures ∙ copy_is bytes c.from.result c.from-2.result c.from-3.result gates operands rows);
+      refused = tt;
+      same = tt;
+    }

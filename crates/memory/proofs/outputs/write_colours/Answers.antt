@@ -1,4 +1,5 @@
-use Rattle.std.proofs.Common.{length, ap, ◌∙◌, arith}
+use Rattle.std.proofs.Common.{◌≡◌, Bool, true, false, length, refl, ap, ◌∙◌, arith}
+use mir.Val.{bool_byte}
 use Rattle.labels.specs.Numbers.{digit}
 use Rattle.circuit.specs.Words.{word_at}
 use Rattle.circuit.proofs.Bounds.{each_below}
@@ -6,6 +7,11 @@ use Rattle.tables.proofs.Filling.{there_first}
 use Rattle.tables.proofs.Packing.{listed_all}
 use Rattle.memory.specs.Outputs.{colour_at}
 use Rattle.memory.proofs.outputs.write_colours.Goals as goal
+
+-- a bit as a byte
+byte_is : (b : Bool) → bool_byte b ≡ digit b
+byte_is true = refl
+byte_is false = refl
 
 pub output_colour-requires : goal.output_colour-requires
 output_colour-requires g c =
@@ -15,7 +21,7 @@ output_colour-requires g c =
 pub loop-o-preserved : goal.loop-o-preserved
 loop-o-preserved g c =
     there_first 0 c.loop-o.o (colour_at g.L.Label.kind c.args.wires.now c.args.list.now) c.loop-o.colours _ c.loop-o.invariant (omega arith)
-    (c.bit_byte.ensures ∙ ap digit c.output_colour.ensures)
+    (c.from.ensures ∙ byte_is c.output_colour.result ∙ ap digit c.output_colour.ensures)
 
 pub returns : goal.returns
 returns g c =

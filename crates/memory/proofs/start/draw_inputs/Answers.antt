@@ -10,7 +10,7 @@ push-requires g c = let i = c.loop-i.invariant in let l = i.1.long in omega arit
 
 pub loop-i-init : goal.loop-i-init
 loop-i-init g c = (
-  c.requires.0,
+  c.requires.unmade,
   record { long = refl; front = λ w d h. absurd (omega arith); past = λ w d h. refl },
   refl,
   ran_none _ _ (g.met.H.LabelHash.fits _),

@@ -10,7 +10,7 @@ returns g c =
     record {
       filled = filled_of refl (search rules)
           (open_zeros c.args.inputs c.args.total c.from.result c.from-2.result (input_zero F c.args.seed) g.L.Label.kind.zero c.args.wires.now c.clear.new.labels c.new-store.result.values.now c.draw_inputs.new.wires.values.now
-          c.from.ensures c.from-2.ensures c.requires.0 c.requires.1 c.clear.ensures c.new-store.ensures.values c.draw_inputs.ensures.filled);
+          c.from.ensures c.from-2.ensures c.requires.within c.requires.room c.clear.ensures c.new-store.ensures.values c.draw_inputs.ensures.filled);
       kept = c.draw_inputs.ensures.kept;
       count = c.draw_inputs.ensures.count;
     }

@@ -1,20 +1,31 @@
-use Rattle.std.proofs.Common.{◌+◌, ◌*◌, sym, arith}
-use Rattle.sha256.proofs.Loops.{after_none, after_more}
+use Rattle.std.proofs.Common.{◌≡◌, ℕ, ◌/◌, List, [], length, sym, ◌∙◌, length-append, arith, rules}
+use Rattle.std.specs.Iterator.Adapters.{zip_first, zip_second}
+use Rattle.std.specs.Slice.Iter.{iter_rest}
+use Rattle.std.specs.Simd.{first_chunks}
+use Rattle.std.proofs.lemmas.Slice.Zip.{zip_turn}
+use Rattle.sha256.specs.Constants.{constants}
+use Rattle.sha256.proofs.Blocks.{block_at}
+use Rattle.sha256.proofs.Loops.{after_none, eight_more}
 use Rattle.sha256.proofs.compression.turns.Goals as goal
 
-pub loop-i-init : goal.loop-i-init
-loop-i-init c = sym (after_none _ _)
+pub loop-k-init : goal.loop-k-init
+loop-k-init c = sym (after_none _ _)
 
-pub loop-i-preserved : goal.loop-i-preserved
-loop-i-preserved c =
-    let start = c.args.start in
-    let w = c.args.w.now in
-    let t = 8 * c.loop-i.i in
-    let e1 = after_more start _ c.turn_at-s1.result w t (t + 1) c.loop-i.invariant c.turn_at-s1.ensures (omega arith) in
-    let e2 = after_more start _ c.turn_at-s2.result w (t + 1) (t + 2) e1 c.turn_at-s2.ensures (omega arith) in
-    let e3 = after_more start _ c.turn_at-s3.result w (t + 2) (t + 3) e2 c.turn_at-s3.ensures (omega arith) in
-    let e4 = after_more start _ c.turn_at-s4.result w (t + 3) (t + 4) e3 c.turn_at-s4.ensures (omega arith) in
-    let e5 = after_more start _ c.turn_at-s5.result w (t + 4) (t + 5) e4 c.turn_at-s5.ensures (omega arith) in
-    let e6 = after_more start _ c.turn_at-s6.result w (t + 5) (t + 6) e5 c.turn_at-s6.ensures (omega arith) in
-    let e7 = after_more start _ c.turn_at-s7.result w (t + 6) (t + 7) e6 c.turn_at-s7.ensures (omega arith) in
-    after_more start _ c.turn_at-s.result w (t + 7) (8 * (c.loop-i.i + 1)) e7 c.turn_at-s.ensures (omega arith)
+pub loop-k-preserved : goal.loop-k-preserved
+loop-k-preserved c =
+    let s = c.into_iter-k-iterator.result in
+    let words = c.args.words.now in
+    let ks : List (List ℕ) = first_chunks 8 8 constants in
+    let ws : List (List ℕ) = first_chunks 8 (length words / 8) words in
+    let first : iter_rest (zip_first s) ≡ ks = search rules in
+    let second : iter_rest (zip_second s) ≡ ws = search rules in
+    let xs = c.loop-k.yielded in
+    let i = length xs in
+    let z = zip_turn ks ws xs s _ c.next.new.self _ first second c.loop-k.yielded_by _ c.in-Some.is c.next.ensures.steps in
+    let k = z.2 [] ∙ block_at 8 8 i constants [] (omega arith) in
+    let w = z.3 [] ∙ block_at 8 (length words / 8) i words [] (omega arith) in
+    eight_more c.args.start words _ _ i k w
+    c.loop-k.state c.turn-s.result c.turn-s-in-loop-k.result c.turn-s-in-loop-k-2.result c.turn-s-in-loop-k-3.result c.turn-s-in-loop-k-4.result c.turn-s-in-loop-k-5.result c.turn-s-in-loop-k-6.result c.turn-state.result
+    _ c.loop-k.invariant
+    c.turn-s.ensures c.turn-s-in-loop-k.ensures c.turn-s-in-loop-k-2.ensures c.turn-s-in-loop-k-3.ensures c.turn-s-in-loop-k-4.ensures c.turn-s-in-loop-k-5.ensures c.turn-s-in-loop-k-6.ensures c.turn-state.ensures
+    (length-append xs _)

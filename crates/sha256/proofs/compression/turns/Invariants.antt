@@ -1,6 +1,6 @@
-use Rattle.std.proofs.Common.{◌≡◌, ◌*◌}
+use Rattle.std.proofs.Common.{◌≡◌, ◌*◌, length}
 use Rattle.sha256.specs.Compression.{after}
 use Rattle.sha256.proofs.compression.turns.Given as goal
 
-abbrev pub invariant-loop-i : goal.invariant-loop-i
-invariant-loop-i l = l.s ≡ after l.initial.s l.w (8 * l.i)
+abbrev pub invariant-loop-k : goal.invariant-loop-k
+invariant-loop-k l = l.state ≡ after l.fn.start l.fn.words (8 * length l.yielded)

@@ -1,9 +1,8 @@
 use Rattle.std.proofs.Common.{◌≡◌, ℕ, ◌<◌}
-use Rattle.circuit.specs.Words.{word_at}
 use Rattle.tables.specs.Table.{places}
+use Rattle.steps.specs.Gate.{label_on}
 use Rattle.steps.proofs.operands.read_operands.Given as goal
 
 abbrev pub invariant-loop-j : goal.invariant-loop-j
 invariant-loop-j g l =
-    let K = g.L.Label.kind in
-    (i : ℕ) → i < l.j → places K l.out i ≡ places K l.wires.values.now (word_at l.operands i)
+    (i : ℕ) → i < l.j → places g.L.Label.kind l.out i ≡ label_on g.L.Label.kind l.wires.values.now l.operands i

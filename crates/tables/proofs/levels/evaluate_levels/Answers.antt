@@ -1,102 +1,81 @@
-use Rattle.std.proofs.Common.{◌≡◌, ℕ, suc, ◌+◌, ◌-◌, ◌*◌, ◌/◌, ◌^◌, length, get_or, sym, refl, ap, ◌∙◌, zero-mul, arith}
-use Rattle.labels.specs.Kind.{times}
-use Rattle.tables.specs.Table.{places, sum, masked, taken}
+use Rattle.std.proofs.Common.{◌≡◌, ℕ, suc, ◌+◌, ◌-◌, ◌*◌, ◌%◌, ◌^◌, ◌<◌, length, get_or, take, refl, ap, ◌∙◌, sym, arith}
+use Rattle.std.proofs.lemmas.List.{length-take-le}
+use Rattle.tables.specs.Table.{places, taken}
 use Rattle.tables.specs.Material.{row_at}
 use Rattle.tables.proofs.Growing.{read_place}
-use Rattle.tables.proofs.Masks.{twice_next, level_below, level_within, next_row, rows_within, rows_fit, rows_counted, halved_more, taken_level, sum_onto}
-use Rattle.tables.proofs.Running.{ran_none, ran_then, ran_for}
+use Rattle.tables.proofs.Masks.{twice_next, next_row, rows_within, rows_fit, rows_counted, halved_front, taken_level, sum_onto, shifted}
+use Rattle.tables.proofs.Parts.{front_at, front_long}
+use Rattle.tables.proofs.Running.{ran_then}
 use Rattle.tables.proofs.levels.evaluate_levels.Goals as goal
 
-pub pick-requires : goal.pick-requires
-pick-requires g c =
-    let n = length c.args.labels.now in
-    let d = c.loop-d.d in
-    let inv = c.loop-d.invariant in
-    let z = inv.0 in
-    let e = inv.1 in
-    let two = twice_next n d (omega arith) in
-    let low = level_below n d 7 (omega arith) (omega arith) in
+pub slice_bounds-v-end : goal.slice_bounds-v-end
+slice_bounds-v-end g c =
+    let s = shifted c.level_after-l.result (length c.args.labels.now) (omega arith) (omega arith) in
     omega arith
 
-pub evaluate_then_halve-requires : goal.evaluate_then_halve-requires
-evaluate_then_halve-requires g c =
-    let n = length c.args.labels.now in
-    let d = c.loop-d.d in
-    let inv = c.loop-d.invariant in
-    let two = twice_next n d (omega arith) in
-    let low = level_below n d 7 (omega arith) (omega arith) in
-    let within = level_within n d in
-    let r = rows_within d n c.args.m (omega arith) in
-    let z = inv.0 in
-    let e = inv.1 in
-    let a = inv.2 in
-    let el : c.level_after-l.result ≡ length c.args.labels.now - c.loop-d.d = let e = c.level_after-l.ensures in omega arith in
-    let fit = rows_fit c.args.first d n c.args.m g.L.Label.kind.width (omega arith) in
-    let same : (c.loop-d.at + length c.loop-d.new) * g.L.Label.kind.width ≡ (c.args.first + (d * c.args.m + c.args.m)) * g.L.Label.kind.width = ap (λ k. k * g.L.Label.kind.width) (omega arith) in
-    record { small = omega arith; long = omega arith }
+pub slice_bounds-v-end-in-loop-d : goal.slice_bounds-v-end-in-loop-d
+slice_bounds-v-end-in-loop-d g c =
+    let s = shifted c.level_after-l.result (length c.args.labels.now) (omega arith) (omega arith) in
+    sym (length-take-le _ c.loop-d.v (omega arith))
 
-pub overflow_add-at : goal.overflow_add-at
-overflow_add-at g c =
+pub overflow_add-level : goal.overflow_add-level
+overflow_add-level g c =
     let K = g.L.Label.kind in
     let n = length c.args.labels.now in
-    let a = c.loop-d.invariant.2 in
-    let r = rows_within c.loop-d.d n c.args.m (omega arith) in
-    let f = rows_counted (c.args.first + n * c.args.m) K.width K.width_least in
+    let m = length c.args.new.now in
+    let r = rows_within c.loop-d.d n m (omega arith) in
+    let f = rows_counted ((length c.args.labels.now - 1) + n * m) K.width K.width_least in
     omega arith
 
-pub loop-d-init : goal.loop-d-init
-loop-d-init g c =
-    let K = g.L.Label.kind in
-    let n = length c.args.labels.now in
-    let e : 2 ^ (n - 0) ≡ 2 ^ n = let q : n - 0 ≡ n = omega arith in ap (λ k. 2 ^ k) q in
-    let z = zero-mul c.args.m in
-    (refl, omega arith, omega arith, (λ i l. refl), (λ j l. sym (K.right _)), ran_for _ _ _ _ _ _ (ran_none _ _ (g.met.H.LabelHash.fits _)) (omega arith))
+pub evaluate_then_halve-requires-clause-labels : goal.evaluate_then_halve-requires-clause-labels
+evaluate_then_halve-requires-clause-labels g c =
+    let s = shifted c.level_after-l.result (length c.args.labels.now) (omega arith) (omega arith) in
+    length-take-le _ c.loop-d.v (omega arith) ∙ s.is
+
+pub evaluate_then_halve-requires-clause-room : goal.evaluate_then_halve-requires-clause-room
+evaluate_then_halve-requires-clause-room g c =
+    let w = g.L.Label.kind.width in
+    let m = length c.args.new.now in
+    let fit = rows_fit (length c.args.labels.now - 1) c.loop-d.d (length c.args.labels.now) m w (omega arith) in
+    let same : ((length c.args.labels.now - 1) + c.loop-d.d * m + length c.loop-d.new) * w ≡ ((length c.args.labels.now - 1) + (c.loop-d.d * m + m)) * w = ap (λ k. k * w) (omega arith) in
+    omega arith
 
 pub loop-d-preserved : goal.loop-d-preserved
 loop-d-preserved g c =
     let K = g.L.Label.kind in
     let F = g.H.LabelHash.means c.args.h.now in
-    let E = places K c.args.labels.now in
+    let labels = c.args.labels.now in
+    let v = c.loop-d.v in
+    let E = places K labels in
     let V = places K c.args.v.now in
-    let m = c.args.m in
-    let n = length c.args.labels.now in
+    let m = length c.args.new.now in
+    let n = length labels in
     let d = c.loop-d.d in
-    let w = c.loop-d.half / 2 in
-    let inv = c.loop-d.invariant in
-    let h = inv.1 in
-    let a = inv.2 in
-    let two = twice_next n d (omega arith) in
-    let within = level_within n d in
-    let row = next_row d m in
-    let ew : w ≡ 2 ^ (n - suc d) = omega arith in
-    let ed : 2 ^ (n - (d + 1)) ≡ 2 ^ (n - suc d) = let q : n - (d + 1) ≡ n - suc d = omega arith in ap (λ k. 2 ^ k) q in
-    let el : c.level_after-l.result ≡ length c.args.labels.now - c.loop-d.d = let e = c.level_after-l.ensures in omega arith in
     let l = c.level_after-l.result in
-    let k = read_place K c.args.labels.now (l - 1) c.index-labels-l.result (omega arith) c.index-labels-l.is in
-    let key : c.index-labels-l.result ≡ E (n - suc d) = let q : l - 1 ≡ n - suc d = omega arith in k ∙ ap E q in
-    let f = inv.5.kept in
-    let f' = c.pick.ensures.ran.kept ∙ inv.5.kept in
-    let masks : ℕ → ℕ → g.row.L.Denot = λ d j. row_at K c.args.material.now (c.args.first + (d * m + j)) in (
-      omega arith,
-      omega arith,
-      omega arith,
-      halved_more K n d w V _ _ (omega arith) ew inv.3 c.evaluate_then_halve.ensures.halved,
-      (λ j l. sum_onto K d (λ e. taken K F c.args.gate m n masks E V e j) _ _ _ _ (inv.4 j l)
-          (taken_level K F _ _ c.args.gate m n d w c.loop-d.at c.args.first E V c.index-labels-l.result c.pick.new.nums c.loop-d.v (row_at K c.args.material.now) j (omega arith) ew f f' c.pick.ensures.there key inv.3 a)
-          (c.evaluate_then_halve.ensures.news j (omega arith) ∙ ap (λ i. K.xor (places K c.loop-d.new j) (K.xor (masked K (g.H.LabelHash.means c.pick.new.h) c.args.gate i w (λ i. get_or c.pick.new.nums i 0) c.index-labels-l.result (K.colour c.index-labels-l.result) (places K c.loop-d.v) j) (times K (K.colour c.index-labels-l.result) (row_at K c.args.material.now (c.loop-d.at + j))))) el)),
-      ran_then _ _ _ _ _ _ _ _ _ inv.5 (ran_then _ _ _ _ _ _ _ _ _ c.pick.ensures.ran c.evaluate_then_halve.ensures.ran refl) (omega arith),
-    )
-
-pub returns : goal.returns
-returns g c =
-    let K = g.L.Label.kind in
-    let F = g.H.LabelHash.means c.args.h.now in
-    let n = length c.args.labels.now in
-    let q : c.loop-d.d ≡ n = omega arith in
+    let p : ℕ = 1 * 2 ^ l % 2 ^ 64 in
+    let q : ℕ = 1 * 2 ^ (l - 1) % 2 ^ 64 in
     let inv = c.loop-d.invariant in
-    let e : 2 ^ (n - c.loop-d.d) ≡ 1 = let z : n - c.loop-d.d ≡ 0 = omega arith in ap (λ k. 2 ^ k) z in
-    let p : c.loop-d.d * c.args.m ≡ n * c.args.m = ap (λ k. k * c.args.m) q in
-    record {
-      news = λ j l. inv.4 j l ∙ ap (λ k. K.xor (places K c.args.new.now j) (sum K k (λ d. taken K F c.args.gate c.args.m n (λ d j. row_at K c.args.material.now (c.args.first + (d * c.args.m + j))) (places K c.args.labels.now) (places K c.args.v.now) d j))) q;
-      ran = ran_for _ _ _ _ _ _ inv.5 (omega arith);
-    }
+    let row = next_row d m in
+    let two = twice_next n d (omega arith) in
+    let el : l ≡ n - d = omega arith in
+    let e : l - 1 ≡ n - suc d = omega arith in
+    let s = shifted l n (omega arith) (omega arith) in
+    let t = shifted (l - 1) 7 (omega arith) (omega arith) in
+    let ep : p ≡ 2 ^ (n - d) = s.is ∙ ap (λ k. 2 ^ k) el in
+    let eq : 2 ^ (l - 1) ≡ 2 ^ (n - suc d) = ap (λ k. 2 ^ k) e in
+    let ed : 2 ^ (n - (d + 1)) ≡ 2 ^ (n - suc d) = let z : n - (d + 1) ≡ n - suc d = omega arith in ap (λ k. 2 ^ k) z in
+    let u = length-take-le q c.loop-d.numbers (omega arith) in
+    let key : c.index-labels-l.result ≡ E (n - suc d) = read_place K labels (l - 1) c.index-labels-l.result (omega arith) c.index-labels-l.is ∙ ap E e in
+    let f = inv.3.kept in
+    let N : ℕ → ℕ = λ i. get_or c.pick.new.nums i 0 in
+    let W = places K (take p v) in
+    let eW : (i : ℕ) → i < 2 ^ l → W i ≡ places K v i = λ i h. front_at p v i i K.zero (omega arith) refl in
+    let rows : ℕ → g.row.L.Denot = row_at K c.args.material.now in (
+      front_long q c.loop-d.numbers c.pick.new.nums c.pick.auto.nums ∙ inv.0,
+      halved_front K n d p V v c.evaluate_then_halve.new.v (omega arith) ep (omega arith) c.evaluate_then_halve.auto.v inv.1 c.evaluate_then_halve.ensures.halved,
+      (λ j h. sum_onto K d (λ e. taken K F c.args.gate m n (λ d j. rows ((length c.args.labels.now - 1) + (d * m + j))) E V e j) _ _ _ _ (inv.2 j h)
+          (taken_level K F _ _ c.args.gate m n d l (length (take q c.loop-d.numbers)) (length c.args.labels.now - 1) E V c.index-labels-l.result v N W rows j (omega arith) el f (c.pick.ensures.ran.kept ∙ f)
+          (u ∙ t.is) (λ i r. c.pick.ensures.there i (omega (arith, c.pick.auto.nums))) key inv.1 eW)
+          (c.evaluate_then_halve.ensures.news j (omega arith))),
+      ran_then _ _ _ _ _ _ _ _ _ inv.3 (ran_then _ _ _ _ _ _ _ _ _ c.pick.ensures.ran c.evaluate_then_halve.ensures.ran refl) (omega arith),
+    )

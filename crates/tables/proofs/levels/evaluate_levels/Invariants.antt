@@ -10,9 +10,7 @@ invariant-loop-d g l =
     let K = g.L.Label.kind in
     let F = g.H.LabelHash.means l.initial.h in
     let V = places K l.initial.v in
-    (length l.nums ≡ 128)
-    × (l.half ≡ 2 ^ (l.n - l.d))
-    × (l.at ≡ l.initial.at + l.d * l.m)
+    (length l.numbers ≡ 128)
     × Holds K (2 ^ (l.n - l.d)) (halved K l.n V l.d) l.v
-    × Holds K l.m (λ j. K.xor (places K l.initial.new j) (sum K l.d (λ d. taken K F l.gate l.m l.n (λ d j. row_at K l.material (l.initial.at + (d * l.m + j))) (places K l.labels) V d j))) l.new
+    × Holds K l.m (λ j. K.xor (places K l.initial.new j) (sum K l.d (λ d. taken K F l.gate l.m l.n (λ d j. row_at K l.material ((l.n - 1) + (d * l.m + j))) (places K l.labels) V d j))) l.new
     × Ran F (g.H.LabelHash.means l.h) (g.H.LabelHash.calls l.initial.h) (g.H.LabelHash.calls l.h) ((2 ^ l.n - 2 ^ (l.n - l.d)) + l.d * l.m)

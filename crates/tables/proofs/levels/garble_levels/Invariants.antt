@@ -1,20 +1,18 @@
 use Rattle.std.proofs.Common.{◌≡◌, ℕ, ◌+◌, ◌-◌, ◌*◌, ◌^◌, ◌<◌, false}
-use Rattle.tables.specs.Level.{Holds}
+use Rattle.tables.specs.Level.{bases, Holds}
 use Rattle.tables.specs.Material.{row_bytes}
 use Rattle.tables.specs.Ran.{Ran}
-use Rattle.tables.specs.Table.{places, based, sum, halved, given as part, mask_row}
+use Rattle.tables.specs.Table.{places, sum, halved, given as part, mask_row}
 use Rattle.tables.proofs.levels.garble_levels.Given as goal
 
 abbrev pub invariant-loop-d : goal.invariant-loop-d
 invariant-loop-d g l =
     let K = g.L.Label.kind in
     let F = g.H.LabelHash.means l.initial.h in
-    let B : ℕ → g.row.L.Denot = λ k. based K l.offset (places K l.zeros k) in
+    let B = bases K l.offset l.zeros in
     let V = places K l.initial.v in
-    (l.half ≡ 2 ^ (l.n - l.d))
-    × (l.at ≡ l.initial.at + l.d * l.m)
-    × Holds K (2 ^ (l.n - l.d)) (halved K l.n V l.d) l.v
+    Holds K (2 ^ (l.n - l.d)) (halved K l.n V l.d) l.v
     × Holds K l.m (λ j. K.xor (places K l.initial.new j) (sum K l.d (λ d. part K F l.gate l.m l.n l.offset B V d false j))) l.new
-    × ((d : ℕ) → d < l.d → (j : ℕ) → j < l.m → row_bytes K (l.initial.at + (d * l.m + j)) l.material ≡ K.bytes (mask_row K F l.gate l.m l.n l.offset B V d j))
-    × ((i : ℕ) → i < l.initial.at → row_bytes K i l.material ≡ row_bytes K i l.initial.material)
+    × ((d : ℕ) → d < l.d → (j : ℕ) → j < l.m → row_bytes K ((l.n - 1) + (d * l.m + j)) l.material ≡ K.bytes (mask_row K F l.gate l.m l.n l.offset B V d j))
+    × ((i : ℕ) → i < (l.n - 1) → row_bytes K i l.material ≡ row_bytes K i l.initial.material)
     × Ran F (g.H.LabelHash.means l.h) (g.H.LabelHash.calls l.initial.h) (g.H.LabelHash.calls l.h) (2 * (l.d * l.m))

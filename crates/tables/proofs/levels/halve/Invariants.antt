@@ -1,4 +1,3 @@
-use Rattle.std.proofs.Common.{◌+◌}
 use Rattle.tables.specs.Level.{Holds, Past}
 use Rattle.tables.specs.Table.{places}
 use Rattle.tables.proofs.levels.halve.Given as goal
@@ -6,4 +5,4 @@ use Rattle.tables.proofs.levels.halve.Given as goal
 abbrev pub invariant-loop-i : goal.invariant-loop-i
 invariant-loop-i g l =
     let K = g.L.Label.kind in
-    Holds K l.i (λ i. K.xor (places K l.initial.v i) (places K l.initial.v (i + l.w))) l.v × Past K l.i l.initial.v l.v
+    Holds K l.i (λ i. K.xor (places K l.initial.front i) (places K l.back i)) l.front × Past K l.i l.initial.front l.front

@@ -1,8 +1,6 @@
-use Rattle.std.proofs.Common.{◌≡◌, ◌^◌}
+use Rattle.std.proofs.Common.{◌≡◌}
 use Rattle.tables.specs.Table.{places, colours}
 use Rattle.tables.proofs.number.colours.Given as goal
 
 abbrev pub invariant-loop-k : goal.invariant-loop-k
-invariant-loop-k g l =
-    let K = g.L.Label.kind in
-    (l.w ≡ 2 ^ l.k) × (l.number ≡ colours K l.k (places K l.labels))
+invariant-loop-k g l = let K = g.L.Label.kind in l.number ≡ colours K l.k (places K l.labels)

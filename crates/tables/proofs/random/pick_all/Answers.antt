@@ -1,62 +1,54 @@
-use Rattle.std.proofs.Common.{◌≡◌, ℕ, ◌+◌, ◌^◌, length, refl, ap, ◌∙◌, ap₂, add-one, arith, pow_pos, pow_mono}
-use Rattle.tables.specs.Table.{places, based}
+use Rattle.std.proofs.Common.{◌≡◌, ℕ, ◌+◌, ◌-◌, ◌*◌, ◌%◌, ◌^◌, length, sym, refl, ap, ◌∙◌, add-one, arith, pow_pos}
+use borrow.Rule.Slice.PartMut.{put_mid}
+use Rattle.std.proofs.lemmas.Nat.{one_shl}
+use Rattle.tables.specs.Level.{bases}
+use Rattle.tables.specs.Table.{based}
 use Rattle.tables.proofs.Givens.{numbered_more}
 use Rattle.tables.proofs.Growing.{read_place}
 use Rattle.tables.proofs.Hot.{next_fits}
 use Rattle.tables.proofs.Numbering.{two_pow}
-use Rattle.tables.proofs.Running.{ran_none, ran_then, ran_for}
+use Rattle.tables.proofs.Parts.{part_long, mid_long}
+use Rattle.tables.proofs.Running.{ran_then}
 use Rattle.tables.proofs.random.pick_all.Goals as goal
 
-pub pick-requires : goal.pick-requires
-pick-requires g c =
-    let n = length c.args.zeros.now in
-    let e = c.loop-p.invariant.0 in
-    let f = next_fits c.loop-p.p n (omega arith) in
-    let p : 2 ^ (n + 1) ≡ 2 ^ n + 2 ^ n = ap (λ k. 2 ^ k) (add-one n) ∙ two_pow n in
-    let k = pow_mono {i = n} {j = 8} (omega arith) in
+pub slice_bounds-pick-end : goal.slice_bounds-pick-end
+slice_bounds-pick-end g c =
+    let p = c.loop-p.p in
+    let w : (1 * 2 ^ p) % 2 ^ 64 ≡ 2 ^ p = one_shl p 64 (omega arith) in
+    let f = next_fits p (length c.args.zeros.now) (omega arith) in
     omega arith
 
-pub pick-requires-in-loop-p : goal.pick-requires-in-loop-p
-pick-requires-in-loop-p g c =
-    let n = length c.args.zeros.now in
-    let e = c.loop-p.invariant.0 in
-    let f = next_fits c.loop-p.p n (omega arith) in
-    let p : 2 ^ (n + 1) ≡ 2 ^ n + 2 ^ n = ap (λ k. 2 ^ k) (add-one n) ∙ two_pow n in
-    let k = pow_mono {i = n} {j = 8} (omega arith) in
+pub slice_bounds-pick-end-in-loop-p : goal.slice_bounds-pick-end-in-loop-p
+slice_bounds-pick-end-in-loop-p g c =
+    let p = c.loop-p.p in
+    let w : (1 * 2 ^ p) % 2 ^ 64 ≡ 2 ^ p = one_shl p 64 (omega arith) in
+    let f = next_fits p (length c.args.zeros.now) (omega arith) in
     omega arith
-
-pub loop-p-init : goal.loop-p-init
-loop-p-init g c = (refl, (λ p l. absurd (omega arith)), ran_none _ _ (g.met.H.LabelHash.fits _))
 
 pub loop-p-preserved : goal.loop-p-preserved
 loop-p-preserved g c =
     let K = g.L.Label.kind in
     let F = g.H.LabelHash.means c.args.h.now in
-    let B : ℕ → g.row.L.Denot = λ k. based K c.args.offset (places K c.args.zeros.now k) in
+    let B = bases K c.args.offset c.args.zeros.now in
+    let n = length c.args.zeros.now in
     let p = c.loop-p.p in
+    let u : ℕ = 1 * 2 ^ p % 2 ^ 64 in
+    let a = c.loop-p.nums in
     let inv = c.loop-p.invariant in
-    let e = inv.0 in
+    let w : 1 * 2 ^ p % 2 ^ 64 ≡ 2 ^ p = one_shl p 64 (omega arith) in
+    let f = next_fits p n (omega arith) in
     let q : 2 ^ (p + 1) ≡ 2 ^ p + 2 ^ p = ap (λ k. 2 ^ k) (add-one p) ∙ two_pow p in
     let pos = pow_pos p in
-    let b : c.base-key.result ≡ B p = c.base-key.ensures ∙ ap (based K c.args.offset) (read_place K c.args.zeros.now p c.index-zeros-p.result (omega arith) c.index-zeros-p.is) in
-    let k₀ = c.xor-key0.ensures ∙ ap₂ K.xor b c.times.ensures in
-    let k₁ = c.xor-key1.ensures ∙ ap₂ K.xor b c.times-in-loop-p.ensures in
+    let b : c.base-key0.result ≡ B p = c.base-key0.ensures ∙ ap (based K c.args.offset) (read_place K c.args.zeros.now p c.index-zeros-p.result (omega arith) c.index-zeros-p.is) in
+    let k₀ = b ∙ sym (K.right (B p)) in
+    let k₁ = c.xor-key1.ensures ∙ ap (λ k. K.xor k c.args.offset) b in
     let one = c.pick.ensures in
-    let two = c.pick-in-loop-p.ensures in (
-      omega arith,
-      numbered_more K F _ _ c.args.gate c.args.m p c.loop-p.w c.args.offset _ _ B _ _ _ inv.2.kept (one.ran.kept ∙ inv.2.kept) e k₀ k₁ inv.1 one.there one.before two.there two.before,
-      ran_then _ _ _ _ _ _ _ _ _ inv.2 (ran_then _ _ _ _ _ _ _ _ _ one.ran two.ran refl) (omega arith),
+    let two = c.pick-in-loop-p.ensures in
+    let la : length a ≡ length c.args.nums.now = omega arith in
+    let s = part_long (2 * u) (3 * u - 2 * u) a (omega arith) in
+    let ls = mid_long (2 * u) (3 * u - 2 * u) a c.pick.new.nums (omega arith) (c.pick.auto.nums ∙ s) in
+    let t = part_long (3 * u) (4 * u - 3 * u) (put_mid (2 * u) (3 * u - 2 * u) a c.pick.new.nums) (omega arith) in (
+      numbered_more K F _ _ c.args.gate c.args.m p u _ _ c.args.offset _ _ B a _ _ inv.1.kept (one.ran.kept ∙ inv.1.kept) w k₀ k₁ (omega arith) inv.0
+          (s ∙ omega arith) c.pick.auto.nums one.there (t ∙ omega arith) c.pick-in-loop-p.auto.nums two.there,
+      ran_then _ _ _ _ _ _ _ _ _ inv.1 (ran_then _ _ _ _ _ _ _ _ _ one.ran two.ran refl) (omega arith),
     )
-
-pub returns : goal.returns
-returns g c =
-    let K = g.L.Label.kind in
-    let n = length c.args.zeros.now in
-    let q : c.loop-p.p ≡ n = omega arith in
-    let inv = c.loop-p.invariant in
-    let e = inv.0 ∙ ap (λ k. 2 ^ k) q in
-    let p : 2 ^ (n + 1) ≡ 2 ^ n + 2 ^ n = ap (λ k. 2 ^ k) (add-one n) ∙ two_pow n in
-    record {
-      there = λ p l. inv.1 p (omega arith);
-      ran = ran_for _ _ _ _ _ _ inv.2 (omega arith);
-    }

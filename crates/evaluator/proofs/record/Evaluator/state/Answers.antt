@@ -3,7 +3,6 @@ use Rattle.evaluator.proofs.record.Evaluator.state.Goals as goal
 
 pub returns-in-Some : goal.returns-in-Some
 returns-in-Some c =
-    let e = c.in-Some.ensures in
-    let m = lowest_not c.args.self.now.side.marks _ _ e.1 in
-    let began = e.0 in
+    let m = lowest_not c.args.self.now.progress.side.marks _ _ c.in-Some.ensures.lowest in
+    let began = c.in-Some.ensures.begun in
     rw (began, m)

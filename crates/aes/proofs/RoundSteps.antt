@@ -1,0 +1,47 @@
+-- The steps of a round on columns. Assumes nothing.
+use Rattle.std.proofs.Common.{◌≡◌, ℕ, List, [], ◌∷◌, sym, ap, ◌∙◌}
+use lib.Bits.{bit_xor}
+use Rattle.aes.specs.SBox.{s_box}
+use Rattle.aes.specs.Bytes.{byte, bytes4, xors}
+use Rattle.aes.specs.Columns.{columns}
+use Rattle.aes.specs.Rounds.{add_round_key, full_round, last_round, mix_columns, mixed_column, mixed, sum4, shift_rows, shifted_column, cell, sub_bytes}
+use Rattle.aes.specs.Shares.{share, top_share}
+use Rattle.aes.proofs.Words.{by_columns, bytes4_xor}
+
+pub key_added : (a b c d i j k l : ℕ) → add_round_key (columns a b c d) (columns i j k l) ≡ columns (bit_xor a i) (bit_xor b j) (bit_xor c k) (bit_xor d l)
+unfolding columns bytes4 xors add_round_key
+key_added a b c d i j k l =
+    sym (by_columns (bit_xor a i) (bit_xor b j) (bit_xor c k) (bit_xor d l)
+    (bytes4_xor a i) (bytes4_xor b j) (bytes4_xor c k) (bytes4_xor d l))
+
+-- the four shares make the mixed column
+pub mixed_word : (a b c d p q r s : ℕ) → bytes4 a ≡ share 0 p → bytes4 b ≡ share 1 q → bytes4 c ≡ share 2 r → bytes4 d ≡ share 3 s
+    → bytes4 (bit_xor (bit_xor (bit_xor a b) c) d) ≡ mixed p q r s
+unfolding share top_share mixed sum4 xors
+mixed_word a b c d p q r s h i j k = simp (bytes4_xor, h, i, j, k)
+
+-- with the round key
+pub mixed_word_and_key : (a b c d k p q r s : ℕ) → bytes4 a ≡ share 0 p → bytes4 b ≡ share 1 q → bytes4 c ≡ share 2 r → bytes4 d ≡ share 3 s
+    → bytes4 (bit_xor (bit_xor (bit_xor (bit_xor a b) c) d) k) ≡ xors (mixed p q r s) (bytes4 k)
+mixed_word_and_key a b c d k p q r s h i j l =
+    bytes4_xor (bit_xor (bit_xor (bit_xor a b) c) d) k ∙ ap (λ (l : List ℕ). xors l (bytes4 k)) (mixed_word a b c d p q r s h i j l)
+
+-- a full round, column by column
+pub full_round_columns : (a b c d i j k l p q r s : ℕ)
+    → bytes4 p ≡ xors (mixed (s_box (byte 0 a)) (s_box (byte 1 b)) (s_box (byte 2 c)) (s_box (byte 3 d))) (bytes4 i)
+    → bytes4 q ≡ xors (mixed (s_box (byte 0 b)) (s_box (byte 1 c)) (s_box (byte 2 d)) (s_box (byte 3 a))) (bytes4 j)
+    → bytes4 r ≡ xors (mixed (s_box (byte 0 c)) (s_box (byte 1 d)) (s_box (byte 2 a)) (s_box (byte 3 b))) (bytes4 k)
+    → bytes4 s ≡ xors (mixed (s_box (byte 0 d)) (s_box (byte 1 a)) (s_box (byte 2 b)) (s_box (byte 3 c))) (bytes4 l)
+    → columns p q r s ≡ full_round (columns a b c d) (columns i j k l)
+unfolding columns bytes4 xors add_round_key full_round mix_columns mixed_column mixed shift_rows shifted_column cell sub_bytes
+full_round_columns a b c d i j k l p q r s e f g h = by_columns p q r s e f g h
+
+-- the last round, column by column
+pub last_round_columns : (a b c d i j k l p q r s : ℕ)
+    → bytes4 p ≡ xors (s_box (byte 0 a) ∷ s_box (byte 1 b) ∷ s_box (byte 2 c) ∷ s_box (byte 3 d) ∷ []) (bytes4 i)
+    → bytes4 q ≡ xors (s_box (byte 0 b) ∷ s_box (byte 1 c) ∷ s_box (byte 2 d) ∷ s_box (byte 3 a) ∷ []) (bytes4 j)
+    → bytes4 r ≡ xors (s_box (byte 0 c) ∷ s_box (byte 1 d) ∷ s_box (byte 2 a) ∷ s_box (byte 3 b) ∷ []) (bytes4 k)
+    → bytes4 s ≡ xors (s_box (byte 0 d) ∷ s_box (byte 1 a) ∷ s_box (byte 2 b) ∷ s_box (byte 3 c) ∷ []) (bytes4 l)
+    → columns p q r s ≡ last_round (columns a b c d) (columns i j k l)
+unfolding columns bytes4 xors add_round_key last_round shift_rows shifted_column cell sub_bytes
+last_round_columns a b c d i j k l p q r s e f g h = by_columns p q r s e f g h

@@ -1,9 +1,0 @@
-use Rattle.std.proofs.Common.{ℕ, List, ◌++◌, ap₂}
-use Rattle.aes.specs.Bytes.{bytes4, bytes8}
-use Rattle.aes.specs.Columns.{columns}
-use Rattle.aes.proofs.Halves.{masked}
-use Rattle.aes.proofs.block.Block.from_words.Goals as goal
-
-pub returns : goal.returns
-unfolding columns bytes4 bytes8
-returns c = ap₂ (λ (x y : List ℕ). x ++ y) (masked c.args.low) (masked c.args.high)

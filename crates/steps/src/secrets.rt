@@ -1,0 +1,7 @@
+// What the garbler keeps to itself.
+
+#[derive(Clone, Copy)]
+pub struct Secrets<L> {
+    pub seed: L,
+    pub offset: L,
+}

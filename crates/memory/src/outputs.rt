@@ -51,6 +51,7 @@ pub fn write_outputs<L: Label>(wires: &[L], list: &[u8], colours: &[u8], outputs
     requires order { all_below (word_at list.now) (length outputs.old) (length wires.now) ≡ true }
     ensures { outputs.new ≡ decoded_of L.kind wires.now list.now colours.now (length outputs.old) }
 {
+    // By the output's number, of its wire and of its colour: nothing is proved of what a zip with `iter_mut` wrote.
     for (o, output) in outputs.iter_mut().enumerate() {
         *output = decoded_bit(output_colour(wires, list, o), colours[o]);
     }

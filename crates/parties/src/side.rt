@@ -6,7 +6,7 @@ use circuit::sizes::Sizes;
 
 #[derive(Clone, Copy)]
 pub struct Side {
-    // It has not begun, or is wiped. A flag: every refusal of a call is told by it, with the sizes beside it still zero.
+    // It has not begun, or is wiped. A flag, since what a side's record keeps is laid down, and this flag is among it.
     pub ended: bool,
     pub sizes: Sizes,
     // All wires of the circuit.

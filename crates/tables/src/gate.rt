@@ -21,7 +21,7 @@ use hashes::hash::LabelHash;
 use labels::kind::Label;
 
 // The garbler's steps 1 to 4 for the number s: the new wires' zero labels, the material's rows, and the numbers f' in fs.
-// The arguments stay apart: the checker covers no struct whose label is copied out and then used again in it.
+// The arguments stay apart: a struct of the garbler's labels was tried, and the checker did not cover this function with it.
 fn garble_labels<L: Label, H: LabelHash<L>>(
     h: &mut H,
     gate: u32,

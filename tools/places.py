@@ -12,6 +12,19 @@ import sys
 ITEM = re.compile(r'^[ ]*(?:pub(?:\([a-z]+\))? )?(?:const )?fn ([a-z_0-9]+)', re.M)
 CLAUSE = re.compile(r'^\s*(requires|ensures)\*? ?([a-z_0-9]*) ?\{ (.*) \}$', re.M)
 
+# What a single line shows.
+LINES = [(kind, re.compile(pattern)) for kind, pattern in [
+    ('1 own enums', r'^\s*(pub )?enum '),
+    ('1 bool fields and parameters on a line of their own', r'^\s*(pub )?\w+: bool,$'),
+    ('3 loops', r'^\s*(for|while|loop)\b'),
+    ('3 loops over a range', r'^\s*(for|while|loop)\b.*\bin .*\.\.'),
+    ('4 a bit as a number by hand', r'if \w+( == 1)? \{ (1|\w+) \} else \{ 0 \}'),
+    ('4 equality, order or conversion by name', r'\bfn (same|equal\w*|cmp\w*|from_\w+|to_\w+|as_\w+|bytes|words|bit_byte|\w+_byte)\('),
+    ('4 printing by format!', r'format!\('),
+    ('7 pointers, dyn, closures as parameters', r'\bfn\(|dyn |impl Fn|: Fn'),
+    ('7 matches', r'\bmatch \(?\w'),
+]]
+
 
 def functions(text):
     """Each function: its line, name, parameters, clauses and body."""
@@ -87,24 +100,9 @@ def main():
         short = path[len(tree) + 1:].replace('crates/', '').replace('/src', '')
         for number, line in enumerate(text.split('\n'), 1):
             at = '%s:%d %s' % (short, number, line.strip()[:90])
-            if re.match(r'\s*(pub )?enum ', line):
-                place('1 own enums', at)
-            if re.match(r'\s*(pub )?\w+: bool,$', line):
-                place('1 bool fields and parameters on a line of their own', at)
-            if re.match(r'\s*(for|while|loop)\b', line):
-                place('3 loops', at)
-                if re.search(r'\bin .*\.\.', line):
-                    place('3 loops over a range', at)
-            if re.search(r'if \w+( == 1)? \{ (1|\w+) \} else \{ 0 \}', line):
-                place('4 a bit as a number by hand', at)
-            if re.search(r'\bfn (same|equal\w*|cmp\w*|from_\w+|to_\w+|as_\w+|bytes|words|bit_byte|\w+_byte)\(', line):
-                place('4 equality, order or conversion by name', at)
-            if 'format!(' in line:
-                place('4 printing by format!', at)
-            if re.search(r'\bfn\(|dyn |impl Fn|: Fn', line):
-                place('7 pointers, dyn, closures as parameters', at)
-            if re.search(r'\bmatch \(?\w', line):
-                place('7 matches', at)
+            for kind, pattern in LINES:
+                if pattern.search(line):
+                    place(kind, at)
         for number, name, parameters, clauses, body in functions(text):
             at = '%s:%d %s' % (short, number, name)
             if re.fullmatch(r'\s*0\s*', body):

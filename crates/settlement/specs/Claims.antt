@@ -1,0 +1,150 @@
+-- What is claimed of a settlement after each of its calls. Assumes nothing.
+use Rattle.std.specs.Prelude.{◌≡◌, ℕ, zero, suc, ◌+◌, ◌<◌, ◌≤◌, ◌&&◌, Bool, true, false, cond, nat_lt, List, length, take, Some, None, Option, ◌==◌, slice_index}
+use Rattle.labels.specs.Kind.{Kind, times}
+use Rattle.labels.specs.Numbers.{digit}
+use Rattle.hashes.specs.Count.{counted}
+use Rattle.circuit.specs.Parts.{Parts, parts_of}
+use Rattle.circuit.specs.Gates.{output_of, wires_in}
+use Rattle.plain.specs.Plain.{plain_bit}
+use Rattle.steps.specs.Gate.{garble_calls, evaluate_calls}
+use Rattle.steps.specs.Whole.{zero_label, material_before}
+use Rattle.tables.specs.Table.{places}
+use Rattle.parties.specs.Marks.{is_marked}
+use Rattle.settlement.specs.State.{State}
+use Rattle.settlement.specs.Lines.{call_at, line_at, is_accepted, bare}
+use Rattle.settlement.specs.Runs.{Settlement, Ran}
+use Rattle.settlement.specs.declared.call.Call.{Call}
+use Rattle.settlement.specs.declared.call.Call.TheVariants.{Garble, Encode, Deliver, Evaluate, Colours, Decode}
+use Rattle.settlement.specs.declared.line.Answer.{Answer}
+use Rattle.settlement.specs.declared.line.Answer.TheVariants.{Encoded, Decoded}
+
+-- an accepted encode gives its input its bit
+abbrev pub noted : Call → Bool → (ℕ → Bool) → ℕ → Bool
+noted (Garble scratch material) accepted x i = x i
+noted (Encode input bit) accepted x i = cond (accepted && (i == input)) (bit == 1) (x i)
+noted (Deliver input) accepted x i = x i
+noted (Evaluate scratch) accepted x i = x i
+noted (Colours n) accepted x i = x i
+noted (Decode n) accepted x i = x i
+
+-- hash calls of an accepted call, at the next gate of either side
+abbrev pub garbler_cost : Parts → Call → ℕ → ℕ
+garbler_cost c (Garble scratch material) next = garble_calls c next
+garbler_cost c (Encode input bit) next = 0
+garbler_cost c (Deliver input) next = 0
+garbler_cost c (Evaluate scratch) next = 0
+garbler_cost c (Colours n) next = 0
+garbler_cost c (Decode n) next = 0
+
+abbrev pub evaluator_cost : Parts → Call → ℕ → ℕ
+evaluator_cost c (Garble scratch material) next = 0
+evaluator_cost c (Encode input bit) next = 0
+evaluator_cost c (Deliver input) next = 0
+evaluator_cost c (Evaluate scratch) next = evaluate_calls c next
+evaluator_cost c (Colours n) next = 0
+evaluator_cost c (Decode n) next = 0
+
+module _ {L : Type 0} (r : Settlement L) where
+  abbrev pub accepted_at : ℕ → Bool
+  accepted_at k = is_accepted (line_at r.lines k).answer
+
+  -- an input's plain bit after k calls: that of its accepted encode, 0 before one
+  abbrev pub given : ℕ → ℕ → Bool
+  given zero i = false
+  given (suc k) i = noted (call_at r.calls k) (accepted_at k) (given k) i
+
+  -- the plain bit of wire w after k calls
+  abbrev pub bit_of : ℕ → ℕ → Bool
+  bit_of k w = plain_bit (parts_of r.circuit) (given k) w
+
+  -- the hash calls of the accepted calls among the first k
+  abbrev pub garbler_sum : ℕ → ℕ
+  garbler_sum zero = 1 + (parts_of r.circuit).sizes.inputs
+  garbler_sum (suc k) = garbler_sum k + cond (accepted_at k) (garbler_cost (parts_of r.circuit) (call_at r.calls k) (r.at k).garbler.next) 0
+
+  abbrev pub evaluator_sum : ℕ → ℕ
+  evaluator_sum zero = 0
+  evaluator_sum (suc k) = evaluator_sum k + cond (accepted_at k) (evaluator_cost (parts_of r.circuit) (call_at r.calls k) (r.at k).evaluator.next) 0
+
+-- wire w is made: by open and garble, and by deliver and evaluate
+abbrev pub garbler_made : {L : Type 0} → State L → ℕ → Bool
+garbler_made s w = nat_lt w s.garbler.made
+
+abbrev pub evaluator_made : {L : Type 0} → State L → ℕ → Bool
+evaluator_made s w = cond (nat_lt w s.evaluator.sizes.inputs) (is_marked s.evaluator.marks w) (nat_lt w s.evaluator.made)
+
+-- calls alike but for a bit 0 or 1
+abbrev pub SameCall : Call → Call → Type 0
+SameCall (Garble scratch material) d = d ≡ Garble scratch material
+SameCall (Encode input bit) d = (y : ℕ) × (d ≡ Encode input y) × (nat_lt 1 y ≡ nat_lt 1 bit)
+SameCall (Deliver input) d = d ≡ Deliver input
+SameCall (Evaluate scratch) d = d ≡ Evaluate scratch
+SameCall (Colours n) d = d ≡ Colours n
+SameCall (Decode n) d = d ≡ Decode n
+
+-- circuits alike in all but the row words
+pub record SameButRows (c d : Parts) : Type 0 where
+  pub sizes : d.sizes ≡ c.sizes
+  pub forms : d.forms ≡ c.forms
+  pub places : d.places ≡ c.places
+  pub operands : d.operands ≡ c.operands
+  pub outputs : d.outputs ≡ c.outputs
+
+-- memories of the same lengths
+pub record SameLengths {L : Type 0} (s t : State L) : Type 0 where
+  pub zeros : length t.zeros ≡ length s.zeros
+  pub labels : length t.labels ≡ length s.labels
+  pub scratch : length t.scratch ≡ length s.scratch
+  pub material : length t.material ≡ length s.material
+  pub colours : length t.colours ≡ length s.colours
+  pub outputs : length t.outputs ≡ length s.outputs
+
+-- settlements alike in all but seeds, row words, bits 0 or 1 and what carries them
+pub record Alike {L : Type 0} (r o : Settlement L) : Type 0 where
+  pub circuit : SameButRows (parts_of r.circuit) (parts_of o.circuit)
+  pub garbler_hash : o.garbler_hash ≡ r.garbler_hash
+  pub evaluator_hash : o.evaluator_hash ≡ r.evaluator_hash
+  pub garbler_came : o.garbler_came ≡ r.garbler_came
+  pub evaluator_came : o.evaluator_came ≡ r.evaluator_came
+  pub calls : (k : ℕ) → SameCall (call_at r.calls k) (call_at o.calls k)
+  pub lengths : SameLengths (r.at 0) (o.at 0)
+
+-- what line k shows, but for labels: not made, refused why, or the lengths; and both counts
+pub record SameLine {L : Type 0} (r o : Settlement L) (k : ℕ) : Type 0 where
+  pub answer : bare (line_at o.lines k).answer ≡ bare (line_at r.lines k).answer
+  pub garbler_count : (line_at o.lines k).garbler_count ≡ (line_at r.lines k).garbler_count
+  pub evaluator_count : (line_at o.lines k).evaluator_count ≡ (line_at r.lines k).evaluator_count
+
+module _ {L : Type 0} (K : Kind L) (r : Settlement L) where
+  -- the zero label of wire w by the rules
+  abbrev pub ideal : ℕ → L
+  ideal = zero_label K r.garbler_hash (r.at 0).seed (parts_of r.circuit)
+
+  -- the label of bit b on wire w
+  abbrev pub label_of : ℕ → Bool → L
+  label_of w b = K.xor (ideal w) (times K b (r.at 0).offset)
+
+  -- after k calls
+  pub record Claims (k : ℕ) : Type 0 where
+    -- on every wire made on both sides the evaluator's label is the garbler's zero label, with the offset ⊕ed in exactly when the wire's plain bit is 1
+    pub labels : (w : ℕ) → w < wires_in (parts_of r.circuit) → garbler_made (r.at k) w ≡ true → evaluator_made (r.at k) w ≡ true
+        → places K (r.at k).labels w ≡ K.xor (places K (r.at k).zeros w) (times K (bit_of r k w) (r.at k).offset)
+    -- the garbler's zero labels and the material are those of the rules
+    pub zeros : (w : ℕ) → garbler_made (r.at k) w ≡ true → places K (r.at k).zeros w ≡ ideal w
+    pub material : take (r.at k).garbler.bytes (r.at k).material ≡ material_before K r.garbler_hash (r.at 0).seed (parts_of r.circuit) (r.at k).garbler.next
+    -- each count is the one its hash came with and the rules' sum over accepted calls
+    pub garbler_count : (r.at k).garbler_count ≡ counted r.garbler_came (garbler_sum r k)
+    pub evaluator_count : (r.at k).evaluator_count ≡ counted r.evaluator_came (evaluator_sum r k)
+
+  -- of line k, where call k was made
+  pub record LineClaims (k : ℕ) : Type 0 where
+    -- encode answers the label of its bit
+    pub encodes : (input bit : ℕ) (l : L) → call_at r.calls k ≡ Encode input bit → (line_at r.lines k).answer ≡ Encoded l → l ≡ label_of input (bit == 1)
+    -- every colour shown is that of its output's zero label
+    pub colours : (n : ℕ) → (r.at (suc k)).shown ≡ Some n → (o : ℕ) → o < (parts_of r.circuit).sizes.outputs
+        → slice_index (r.at (suc k)).colours o ≡ digit (K.colour (ideal (output_of (parts_of r.circuit) o)))
+    -- every bit decoded is the plain bit of its output
+    pub decodes : (line_at r.lines k).answer ≡ Decoded → (o : ℕ) → o < (parts_of r.circuit).sizes.outputs
+        → slice_index (r.at (suc k)).outputs o ≡ digit (bit_of r (suc k) (output_of (parts_of r.circuit) o))
+    -- a settlement alike shows the same
+    pub alike : (o : Settlement L) → Ran K o (suc k) → o.evaluator_hash ≡ o.garbler_hash → Alike r o → SameLine r o k

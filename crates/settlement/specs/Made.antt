@@ -1,0 +1,27 @@
+-- A call that is made, as the code has it. Assumes nothing.
+use Rattle.std.specs.Prelude.{◌≡◌, ℕ, List, Some, None, Option}
+use Rattle.labels.specs.Kind.{Kind}
+use Rattle.circuit.specs.declared.refusal.Refusal.{Refusal}
+use Rattle.settlement.specs.State.{State}
+use Rattle.settlement.specs.Stands.{refusal}
+use Rattle.settlement.specs.Accepted.{Accepted}
+use Rattle.settlement.specs.declared.call.Call.{Call}
+use Rattle.settlement.specs.declared.lent.Lent.{Lent}
+use Rattle.settlement.specs.declared.line.Answer.{Answer}
+use Rattle.settlement.specs.declared.line.Answer.TheVariants.{Refused}
+
+-- a call that stands: refused, or accepted
+pub record Made {L : Type 0} (K : Kind L) (F E : L → ℕ → L) (bytes : List ℕ) (call : Call) (s : State L) (a : Answer L) (t : State L) : Type 0 where
+  pub refused : (why : Refusal) → refusal s K bytes call ≡ Some why → (a ≡ Refused why) × (t ≡ s)
+  pub accepted : refusal s K bytes call ≡ None → Accepted K bytes s a t F E call
+
+-- the same memories are lent still
+pub record SameLoans {L : Type 0} (old new : Lent L) : Type 0 where
+  pub copy : new.copy.ghost_name ≡ old.copy.ghost_name
+  pub zeros : new.zeros.ghost_name ≡ old.zeros.ghost_name
+  pub labels : new.labels.ghost_name ≡ old.labels.ghost_name
+  pub sent : new.sent.ghost_name ≡ old.sent.ghost_name
+  pub scratch : new.scratch.ghost_name ≡ old.scratch.ghost_name
+  pub material : new.material.ghost_name ≡ old.material.ghost_name
+  pub colours : new.colours.ghost_name ≡ old.colours.ghost_name
+  pub outputs : new.outputs.ghost_name ≡ old.outputs.ghost_name

@@ -1,0 +1,61 @@
+-- A run of a settlement: what becomes of each call. Assumes nothing.
+use Rattle.std.specs.Prelude.{◌≡◌, ℕ, zero, suc, ◌+◌, ◌^◌, ◌<◌, ◌≤◌, ◌&&◌, Bool, true, false, cond, List, length, Some, None, Option, ◌==◌}
+use Rattle.labels.specs.Kind.{Kind}
+use Rattle.hashes.specs.Count.{counted}
+use Rattle.hashes.specs.Draws.{offset, input_zero}
+use Rattle.circuit.specs.Parts.{Parts, parts_of}
+use Rattle.circuit.specs.Gates.{wires_in}
+use Rattle.circuit.specs.Check.{circuit_refusal}
+use Rattle.circuit.specs.declared.refusal.Refusal.{Refusal}
+use Rattle.memory.specs.Copy.{open_copy}
+use Rattle.parties.specs.Side.{started}
+use Rattle.tables.specs.Table.{places}
+use Rattle.settlement.specs.State.{State}
+use Rattle.settlement.specs.Lines.{call_at, line_at, is_accepted}
+use Rattle.settlement.specs.Stands.{stands, refusal}
+use Rattle.settlement.specs.Accepted.{Accepted}
+use Rattle.settlement.specs.declared.call.Call.{Call}
+use Rattle.settlement.specs.declared.line.Answer.{Answer}
+use Rattle.settlement.specs.declared.line.Answer.TheVariants.{NotMade, Refused}
+use Rattle.settlement.specs.declared.line.Line.{Line}
+
+-- what a settlement is about, its calls and their lines, and what both sides hold before each call and after the last
+pub record Settlement (L : Type 0) : Type 0 where
+  pub circuit : List ℕ
+  -- the functions of both hashes, and the counts they came with
+  pub garbler_hash : L → ℕ → L
+  pub evaluator_hash : L → ℕ → L
+  pub garbler_came : ℕ
+  pub evaluator_came : ℕ
+  pub calls : List Call
+  pub lines : List (Line L)
+  pub at : ℕ → State L
+
+-- one call: not made, refused, or accepted
+pub record Step {L : Type 0} (K : Kind L) (F E : L → ℕ → L) (bytes : List ℕ) (s : State L) (call : Call) (a : Answer L) (t : State L) : Type 0 where
+  pub unmade : stands s call ≡ false → (a ≡ NotMade) × (t ≡ s)
+  pub refused : (why : Refusal) → stands s call ≡ true → refusal s K bytes call ≡ Some why → (a ≡ Refused why) × (t ≡ s)
+  pub accepted : stands s call ≡ true → refusal s K bytes call ≡ None → Accepted K bytes s a t F E call
+
+module _ {L : Type 0} (K : Kind L) (r : Settlement L) where
+  -- after an accepted open and an accepted join with the open copy
+  pub record Begun : Type 0 where
+    pub passes : circuit_refusal r.circuit ≡ None
+    pub garbler : (r.at 0).garbler ≡ started (parts_of r.circuit).sizes (wires_in (parts_of r.circuit))
+    pub evaluator : (r.at 0).evaluator ≡ started (parts_of (open_copy r.circuit)).sizes (wires_in (parts_of (open_copy r.circuit)))
+    pub offset_is : (r.at 0).offset ≡ offset r.garbler_hash (r.at 0).seed K
+    pub coloured : K.colour (r.at 0).offset ≡ true
+    pub inputs : (i : ℕ) → i < (parts_of r.circuit).sizes.inputs → places K (r.at 0).zeros i ≡ input_zero r.garbler_hash (r.at 0).seed i
+    pub zeros_room : wires_in (parts_of r.circuit) ≤ length (r.at 0).zeros
+    pub labels_room : wires_in (parts_of (open_copy r.circuit)) ≤ length (r.at 0).labels
+    pub sent_room : 256 ≤ length (r.at 0).sent
+    pub none_shown : (r.at 0).shown ≡ None
+    pub garbler_count : (r.at 0).garbler_count ≡ counted r.garbler_came (1 + (parts_of r.circuit).sizes.inputs)
+    pub evaluator_count : (r.at 0).evaluator_count ≡ r.evaluator_came
+
+  -- n calls made, a line for each: the answer and both counts after it
+  pub record Ran (n : ℕ) : Type 0 where
+    pub begun : Begun
+    pub step : (k : ℕ) → k < n → Step K r.garbler_hash r.evaluator_hash r.circuit (r.at k) (call_at r.calls k) (line_at r.lines k).answer (r.at (suc k))
+    pub garbler_counts : (k : ℕ) → k < n → (line_at r.lines k).garbler_count ≡ (r.at (suc k)).garbler_count
+    pub evaluator_counts : (k : ℕ) → k < n → (line_at r.lines k).evaluator_count ≡ (r.at (suc k)).evaluator_count

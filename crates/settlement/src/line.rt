@@ -1,0 +1,26 @@
+// A line of a settlement: what came of one call.
+
+use circuit::refusal::Refusal;
+
+#[derive(Clone, Copy)]
+pub enum Answer<L> {
+    // The call does not stand, and was not made.
+    NotMade,
+    Refused(Refusal),
+    // The bits of the gate's material, and the bytes written.
+    Garbled { bits: usize, bytes: usize },
+    Encoded(L),
+    Delivered,
+    // The bytes read.
+    Evaluated { bytes: usize },
+    Coloured,
+    Decoded,
+}
+
+// The answer, and the counts of both hashes after it.
+#[derive(Clone, Copy)]
+pub struct Line<L> {
+    pub answer: Answer<L>,
+    pub garbler_count: u64,
+    pub evaluator_count: u64,
+}

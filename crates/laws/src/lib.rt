@@ -2,6 +2,6 @@
 // what every wire carries, that labels stand for bits, and what the open copy of a circuit is.
 #![tactic(auto)]
 
+pub mod carrying;
 pub mod open;
 pub mod sound;
-pub mod wires;

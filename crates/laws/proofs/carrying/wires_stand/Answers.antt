@@ -7,7 +7,7 @@ use Rattle.laws.specs.Ordered.{Ordered}
 use Rattle.laws.proofs.Bits.{plain_input, plain_fresh}
 use Rattle.laws.proofs.Order.{ordered_check}
 use Rattle.laws.proofs.Zeros.{zero_input, zero_fresh, label_input, label_fresh}
-use Rattle.laws.proofs.wires.wires_stand.Goals as goal
+use Rattle.laws.proofs.carrying.wires_stand.Goals as goal
 
 all_carried : {L : Type 0} (K : Kind L) (F : L → ℕ → L) (seed : L) (x : ℕ → Bool) (c : Parts) → Ordered c → AllCarried K F seed x c
 all_carried {L} K F seed x c o = record {

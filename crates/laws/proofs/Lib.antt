@@ -1,0 +1,9 @@
+pub mod Bits
+pub mod Carried
+pub mod Forms
+pub mod Lengths
+pub mod Opening
+pub mod Order
+pub mod Same
+pub mod Sounds
+pub mod Zeros

@@ -1,0 +1,4 @@
+pub mod Carried
+pub mod Opened
+pub mod Ordered
+pub mod Sound

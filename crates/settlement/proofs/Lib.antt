@@ -1,2 +1,6 @@
 mod Lending
 mod Making
+mod Facts
+mod Between
+mod Circuits
+mod Keeping

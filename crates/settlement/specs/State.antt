@@ -46,51 +46,21 @@ state_of garbler evaluator lent shown garbler_count evaluator_count = record {
 }
 
 module _ {L : Type 0} (s : State L) where
-  -- the state that an accepted garble leaves: a side's progress, its wires, material, scratch and count; all else stays
+  -- the state that each accepted call leaves: all that is not named stays
   abbrev pub by_garble : Side → List L → List ℕ → List L → ℕ → State L
-  by_garble side zeros material scratch count = record {
-    garbler = side; evaluator = s.evaluator; seed = s.seed; offset = s.offset;
-    zeros = zeros; labels = s.labels; sent = s.sent; scratch = scratch;
-    material = material; colours = s.colours; outputs = s.outputs; shown = s.shown;
-    garbler_count = count; evaluator_count = s.evaluator_count;
-  }
+  by_garble side zeros material scratch count = record s { garbler = side; zeros = zeros; material = material; scratch = scratch; garbler_count = count }
 
   abbrev pub by_encode : Side → List L → State L
-  by_encode side sent = record {
-    garbler = side; evaluator = s.evaluator; seed = s.seed; offset = s.offset;
-    zeros = s.zeros; labels = s.labels; sent = sent; scratch = s.scratch;
-    material = s.material; colours = s.colours; outputs = s.outputs; shown = s.shown;
-    garbler_count = s.garbler_count; evaluator_count = s.evaluator_count;
-  }
+  by_encode side sent = record s { garbler = side; sent = sent }
 
   abbrev pub by_deliver : Side → List L → State L
-  by_deliver side labels = record {
-    garbler = s.garbler; evaluator = side; seed = s.seed; offset = s.offset;
-    zeros = s.zeros; labels = labels; sent = s.sent; scratch = s.scratch;
-    material = s.material; colours = s.colours; outputs = s.outputs; shown = s.shown;
-    garbler_count = s.garbler_count; evaluator_count = s.evaluator_count;
-  }
+  by_deliver side labels = record s { evaluator = side; labels = labels }
 
   abbrev pub by_evaluate : Side → List L → List L → ℕ → State L
-  by_evaluate side labels scratch count = record {
-    garbler = s.garbler; evaluator = side; seed = s.seed; offset = s.offset;
-    zeros = s.zeros; labels = labels; sent = s.sent; scratch = scratch;
-    material = s.material; colours = s.colours; outputs = s.outputs; shown = s.shown;
-    garbler_count = s.garbler_count; evaluator_count = count;
-  }
+  by_evaluate side labels scratch count = record s { evaluator = side; labels = labels; scratch = scratch; evaluator_count = count }
 
   abbrev pub by_colours : List ℕ → Option ℕ → State L
-  by_colours colours shown = record {
-    garbler = s.garbler; evaluator = s.evaluator; seed = s.seed; offset = s.offset;
-    zeros = s.zeros; labels = s.labels; sent = s.sent; scratch = s.scratch;
-    material = s.material; colours = colours; outputs = s.outputs; shown = shown;
-    garbler_count = s.garbler_count; evaluator_count = s.evaluator_count;
-  }
+  by_colours colours shown = record s { colours = colours; shown = shown }
 
   abbrev pub by_decode : List ℕ → State L
-  by_decode outputs = record {
-    garbler = s.garbler; evaluator = s.evaluator; seed = s.seed; offset = s.offset;
-    zeros = s.zeros; labels = s.labels; sent = s.sent; scratch = s.scratch;
-    material = s.material; colours = s.colours; outputs = outputs; shown = s.shown;
-    garbler_count = s.garbler_count; evaluator_count = s.evaluator_count;
-  }
+  by_decode outputs = record s { outputs = outputs }

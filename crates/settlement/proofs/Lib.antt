@@ -4,3 +4,4 @@ mod Facts
 mod Between
 mod Circuits
 mod Keeping
+mod Theorem

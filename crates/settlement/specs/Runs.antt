@@ -52,6 +52,7 @@ module _ {L : Type 0} (K : Kind L) (r : Settlement L) where
     pub none_shown : (r.at 0).shown ≡ None
     pub garbler_count : (r.at 0).garbler_count ≡ counted r.garbler_came (1 + (parts_of r.circuit).sizes.inputs)
     pub evaluator_count : (r.at 0).evaluator_count ≡ r.evaluator_came
+    pub evaluator_fits : r.evaluator_came < 2 ^ 64
 
   -- n calls made, a line for each: the answer and both counts after it
   pub record Ran (n : ℕ) : Type 0 where

@@ -1,6 +1,6 @@
 -- What it tells that a call is not refused. Assumes nothing.
-use Rattle.std.proofs.Common.{◌≡◌, ℕ, ◌+◌, ◌*◌, ◌<◌, ◌≤◌, Bool, true, false, not, ◌&&◌, ◌||◌, eqb, leb, ltb, List, [], ◌∷◌, length, Some, None, Option, refl, ap, ap₂, sym, ◌∙◌, arith}
-use Rattle.std.proofs.lemmas.Bool.{cases_Bool, eqb-true}
+use Rattle.std.proofs.Common.{◌≡◌, ℕ, ◌+◌, ◌*◌, ◌<◌, ◌≤◌, Bool, true, false, not, ◌&&◌, ◌||◌, eqb, leb, ltb, List, [], ◌∷◌, Some, None, refl, sym, arith}
+use Rattle.std.proofs.lemmas.Bool.{eqb-true}
 use Rattle.std.proofs.lemmas.Bool.Decides.{nat_tests}
 use Rattle.labels.specs.Kind.{Kind}
 use Rattle.labels.specs.Longs.{and_left, and_right}
@@ -8,7 +8,7 @@ use Rattle.circuit.specs.Parts.{Parts, parts_of}
 use Rattle.circuit.specs.Gates.{form_of, made_before, wires_in}
 use Rattle.circuit.specs.Material.{gate_bytes}
 use Rattle.circuit.specs.Check.{circuit_refusal}
-use Rattle.circuit.specs.Refusals.{first_of, or_else}
+use Rattle.circuit.specs.Refusals.{first_of}
 use Rattle.circuit.specs.declared.refusal.Refusal.{Refusal}
 use Rattle.circuit.specs.declared.sizes.Sizes.{Sizes}
 use Rattle.circuit.specs.declared.refusal.Refusal.TheVariants.{Turn, Memory, Material, Number, Bit, Again}

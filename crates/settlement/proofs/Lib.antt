@@ -1,7 +1,15 @@
 mod Lending
 mod Making
 mod Facts
-mod Between
+mod Turning
 mod Circuits
-mod Keeping
+mod Between
+mod GatesKeep
+mod InputsKeep
+mod OutputsKeep
+mod Outcomes
+mod Kept
+mod Counting
+mod Values
+mod Beginning
 mod Theorem

@@ -1,0 +1,4 @@
+pub mod Marks
+pub mod Reached
+pub mod Accepted
+pub mod Carried

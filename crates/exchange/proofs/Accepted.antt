@@ -1,39 +1,34 @@
 -- No call of a run is refused. Assumes nothing.
-use Rattle.std.proofs.Common.{◌≡◌, ℕ, zero, suc, ◌+◌, ◌*◌, ◌<◌, ◌≤◌, Bool, true, false, not, ◌&&◌, ◌||◌, eqb, leb, ltb, List, [], ◌∷◌, length, get_or, Some, None, Ok, Err, Option, Result, IfErr, sym, refl, ap, ◌∙◌, subst, ap₂, arith}
+use Rattle.std.proofs.Common.{◌≡◌, ℕ, suc, ◌+◌, ◌*◌, ◌<◌, ◌≤◌, Bool, true, false, not, ◌&&◌, ◌||◌, eqb, leb, ltb, List, [], ◌∷◌, length, get_or, Some, None, Ok, Err, Option, Result, IfErr, sym, refl, ap, ◌∙◌, ap₂, arith}
 use Rattle.std.specs.Result.{IsOk}
 use Rattle.std.specs.Prelude.{cond}
 use Rattle.std.proofs.lemmas.Bool.{lt-ltb, le-ltb, eq-eqb, lt-leb}
 use Rattle.labels.specs.Kind.{Kind}
-use Rattle.hashes.specs.Draws.{offset}
-use Rattle.circuit.specs.Words.{all_below, sum_below}
+use Rattle.circuit.specs.Words.{all_below}
 use Rattle.circuit.specs.Refusals.{first_of, or_else}
 use Rattle.circuit.specs.Parts.{Parts, parts_of}
 use Rattle.circuit.specs.Gates.{form_of, wires_in}
 use Rattle.circuit.specs.Material.{gate_bytes}
 use Rattle.circuit.specs.Check.{circuit_refusal, bytes_in}
 use Rattle.circuit.specs.declared.refusal.Refusal.{Refusal}
-use Rattle.circuit.specs.declared.refusal.Refusal.TheVariants.{Turn, Memory, Material, Number, Bit, Again, ZeroSeed, Colourless}
-use Rattle.memory.specs.Seed.{blank}
+use Rattle.circuit.specs.declared.refusal.Refusal.TheVariants.{Turn, Memory, Material, Number, Bit, Again}
 use Rattle.wires.proofs.Made.{rises}
 use Rattle.parties.specs.declared.side.Side.{Side}
-use Rattle.parties.specs.declared.state.State.TheVariants.{Collecting, Evaluating, Finished, Ended}
-use Rattle.parties.specs.declared.state.Call.TheVariants.{Join, Deliver, Evaluate, Decode, Wipe}
+use Rattle.parties.specs.declared.state.State.TheVariants.{Collecting, Evaluating, Finished}
+use Rattle.parties.specs.declared.state.Call.TheVariants.{Deliver, Evaluate, Decode}
 use Rattle.parties.specs.Side.{unused}
 use Rattle.parties.specs.Marks.{is_marked, all_marked}
-use Rattle.parties.specs.Turns.{is_its, gates_left}
-use Rattle.parties.specs.States.{state_of, allowed}
-use Rattle.parties.specs.Refusing.{turn_refusal, encode_refusal, deliver_refusal, garble_refusal, evaluate_refusal, colours_refusal, decode_refusal, open_refusal, join_refusal, wipe_refusal}
+use Rattle.parties.specs.Turns.{is_its}
+use Rattle.parties.specs.States.{allowed}
+use Rattle.parties.specs.Refusing.{turn_refusal, encode_refusal, deliver_refusal, garble_refusal, evaluate_refusal, colours_refusal, decode_refusal, join_refusal}
 use Rattle.exchange.specs.Course.{marks_below, reached}
 use Rattle.exchange.proofs.Marks.{unmarked, all_below_marked}
 use Rattle.exchange.proofs.Reached.{its}
 
--- a call that has no refusal is accepted; E is what it answers where it is refused
-pub accepted : {T E : Type 0} (f : E → Refusal) (r : Result T E) (o : Option Refusal) → o ≡ None → IfErr r (λ e. o ≡ Some (f e)) → IsOk r
-accepted f (Ok x) o p h = refl
-accepted f (Err e) o p h = let no : Some (f e) ≡ None = sym h ∙ p in cc
-
-pub is_so : (why : Refusal) → Refusal
-is_so why = why
+-- a call that has no refusal is accepted
+pub accepted : {T : Type 0} (r : Result T Refusal) (o : Option Refusal) → o ≡ None → IfErr r (λ why. o ≡ Some why) → IsOk r
+accepted (Ok x) o p h = refl
+accepted (Err why) o p h = let no : Some why ≡ None = sym h ∙ p in cc
 
 -- tests that are not met, behind a place that does not refuse
 one : (o : Option Refusal) (a : Bool) (x : Refusal) → o ≡ None → a ≡ false → or_else o (first_of ((a, x) ∷ [])) ≡ None
@@ -52,10 +47,10 @@ untrue : (a : Bool) → a ≡ true → not a ≡ false
 untrue a p = rw p
 
 -- what it is the evaluator's turn to
-open_turn : (a b : Bool) → (allowed (cond a (cond b Evaluating Finished) Collecting) Deliver ≡ true) × (allowed (cond a (cond b Evaluating Finished) Collecting) Wipe ≡ true)
-open_turn true true = (refl, refl)
-open_turn true false = (refl, refl)
-open_turn false b = (refl, refl)
+delivers : (a b : Bool) → allowed (cond a (cond b Evaluating Finished) Collecting) Deliver ≡ true
+delivers true true = refl
+delivers true false = refl
+delivers false b = refl
 
 evaluates : (a b : Bool) → a ≡ true → b ≡ true → allowed (cond a (cond b Evaluating Finished) Collecting) Evaluate ≡ true
 evaluates a b p q = rw (p, q)
@@ -75,13 +70,6 @@ module _ {L : Type 0} (K : Kind L) (bytes : List ℕ) (passes : circuit_refusal 
   begins : (w : ℕ) → wires_in c ≤ w → or_else (circuit_refusal bytes) (first_of ((not true, Turn) ∷ (ltb w (wires_in c), Memory) ∷ [])) ≡ None
   begins w room = two (circuit_refusal bytes) (not true) (ltb w (wires_in c)) Turn Memory passes refl (le-ltb w (wires_in c) room)
 
-  pub open_passes : (s : Side) (F : L → ℕ → L) (w : ℕ) (seed : List ℕ) → s ≡ unused → wires_in c ≤ w → length seed ≡ K.width → blank seed ≡ false → K.colour (offset F (K.from seed) K) ≡ true → open_refusal s bytes K F w seed ≡ None
-  open_passes s F w seed e room long some colour =
-      ap (λ (z : Side). open_refusal z bytes K F w seed) e
-      ∙ one _ (not (K.colour (offset F (K.from seed) K))) Colourless
-      (two _ (not (eqb (length seed) K.width)) (blank seed) Memory ZeroSeed (begins w room) (untrue _ (eq-eqb _ _ long)) some)
-      (untrue _ colour)
-
   pub join_passes : (s : Side) (w : ℕ) → s ≡ unused → wires_in c ≤ w → join_refusal s bytes w ≡ None
   join_passes s w e room = ap (λ (z : Side). join_refusal z bytes w) e ∙ begins w room
 
@@ -90,14 +78,14 @@ module _ {L : Type 0} (K : Kind L) (bytes : List ℕ) (passes : circuit_refusal 
         → or_else o (first_of ((ltb w (wires_in c), Memory) ∷ (leb c.sizes.inputs n, Number) ∷ (ltb 1 bit, Bit) ∷ (is_marked (marks_below n) n, Again) ∷ [])) ≡ None
     input_tests o small p =
         four o (ltb w (wires_in c)) (leb c.sizes.inputs n) (ltb 1 bit) (is_marked (marks_below n) n) Memory Number Bit Again p
-        (le-ltb w (wires_in c) room) (lt-leb n c.sizes.inputs there) (le-ltb 1 bit (omega arith)) (unmarked n n (omega arith) (omega arith))
+        (le-ltb w (wires_in c) room) (lt-leb c.sizes.inputs n there) (le-ltb 1 bit (omega arith)) (unmarked n n (omega arith) (omega arith))
 
     pub encode_passes : (s : Side) → s ≡ reached K c n 0 → bit < 2 → encode_refusal s bytes w n bit ≡ None
     encode_passes s e small = ap (λ (z : Side). encode_refusal z bytes w n bit) e ∙ input_tests _ small (in_turn n 0 true refl)
 
   pub deliver_passes : (n w : ℕ) → n < c.sizes.inputs → c.sizes.inputs ≤ 256 → wires_in c ≤ w → (s : Side) → s ≡ reached K c n 0 → deliver_refusal s bytes w n ≡ None
   deliver_passes n w there few room s e =
-      let turn = (open_turn (all_marked (marks_below n) c.sizes.inputs) (ltb 0 c.sizes.gates)).0 in
+      let turn = delivers (all_marked (marks_below n) c.sizes.inputs) (ltb 0 c.sizes.gates) in
       ap (λ (z : Side). deliver_refusal z bytes w n) e ∙ input_tests n w 0 there few room _ (omega arith) (in_turn n 0 _ turn)
 
   -- the material's bytes before a gate, and its own, are among all
@@ -144,15 +132,3 @@ module _ {L : Type 0} (K : Kind L) (bytes : List ℕ) (passes : circuit_refusal 
       (output_tests w (length colours) room count _
       (in_turn c.sizes.inputs c.sizes.gates _ (decodes _ _ (all_below_marked c.sizes.inputs few) (none_left w (length colours) room count))))
       (untrue _ (eq-eqb _ _ long)) (untrue _ small)
-
--- a side that has not ended is wiped
-wipe_tests : (s : Side) (turn : Bool) (w : ℕ) → turn ≡ true → s.wires ≤ w → wipe_refusal s turn w ≡ None
-wipe_tests s turn w t room = let a = untrue turn t in let b = le-ltb w s.wires room in rw (a, b)
-
-pub garbler_wipes : (s : Side) (w : ℕ) → s.ended ≡ false → s.wires ≤ w → wipe_refusal s (not s.ended) w ≡ None
-garbler_wipes s w e room = wipe_tests s (not s.ended) w (rw e refl) room
-
-pub evaluator_wipes : (s : Side) (w : ℕ) → s.ended ≡ false → s.wires ≤ w → wipe_refusal s (allowed (state_of s) Wipe) w ≡ None
-evaluator_wipes s w e room =
-    let turn : allowed (state_of s) Wipe ≡ true = rw e (open_turn (all_marked s.marks s.sizes.inputs) (gates_left s)).1 in
-    wipe_tests s (allowed (state_of s) Wipe) w turn room

@@ -2,3 +2,8 @@ pub mod Marks
 pub mod Reached
 pub mod Accepted
 pub mod Carried
+pub mod Copies
+pub mod Gates
+pub mod Turns
+pub mod Decoding
+pub mod Runs

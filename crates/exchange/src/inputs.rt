@@ -5,6 +5,7 @@ ghost use Rattle.circuit.specs.Gates.{wires_in};
 ghost use Rattle.circuit.specs.Parts.{parts_of};
 ghost use Rattle.circuit.specs.Words.{all_below};
 ghost use Rattle.tables.specs.Table.{places};
+ghost use Rattle.exchange.specs.Copied.{Copied};
 ghost use Rattle.exchange.specs.Course.{reached};
 ghost use Rattle.exchange.specs.Held.{Carry, given_label};
 
@@ -17,11 +18,13 @@ pub fn give_inputs<L: Label>(
     garbler: &mut Garbler<L>,
     evaluator: &mut Evaluator,
     circuit: &[u8],
+    copy: &[u8],
     bits: &[u8],
     zeros: &[L],
     labels: &mut [L],
 )
     requires passes { circuit_refusal circuit.now ≡ None }
+    requires copy { Copied circuit.now copy.now }
     requires count { length bits.now ≡ (parts_of circuit.now).sizes.inputs }
     requires bits { all_below (λ i. slice_index bits.now i) (length bits.now) 2 ≡ true }
     requires garbler { garbler.old.progress.side ≡ reached L.kind (parts_of circuit.now) 0 0 }
@@ -36,6 +39,6 @@ pub fn give_inputs<L: Label>(
 {
     for (input, bit) in bits.iter().enumerate() {
         let label = garbler.encode(circuit, zeros, input, *bit).unwrap();
-        evaluator.deliver(circuit, labels, input, label).unwrap();
+        evaluator.deliver(copy, labels, input, label).unwrap();
     }
 }

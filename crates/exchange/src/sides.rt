@@ -6,6 +6,7 @@ ghost use Rattle.circuit.specs.Gates.{wires_in};
 ghost use Rattle.circuit.specs.Parts.{parts_of};
 ghost use Rattle.memory.specs.Seed.{blank};
 ghost use Rattle.steps.specs.Whole.{zero_label};
+ghost use Rattle.exchange.specs.Copied.{Copied};
 ghost use Rattle.exchange.specs.Course.{reached};
 ghost use Rattle.exchange.specs.Held.{Carry};
 
@@ -23,15 +24,17 @@ pub struct Sides<L> {
 }
 
 impl<L: Label> Sides<L> {
-    // Opens a garbler and joins an evaluator, where nothing stands against it.
+    // Opens a garbler with the circuit and joins an evaluator with its open copy, where nothing stands against it.
     pub fn begin<H: LabelHash<L>>(
         h: &mut H,
         circuit: &[u8],
+        copy: &[u8],
         seed: &mut [u8],
         zeros: &mut [L],
         labels: &mut [L],
     ) -> Sides<L>
         requires passes { circuit_refusal circuit.now ≡ None }
+        requires copy { Copied circuit.now copy.now }
         requires seed_long { length seed.old ≡ L.kind.width }
         requires seed_some { blank seed.old ≡ false }
         requires coloured { L.kind.colour (offset (H.means h.old) (L.kind.from seed.old) L.kind) ≡ true }
@@ -49,7 +52,7 @@ impl<L: Label> Sides<L> {
         let mut garbler = Garbler::new();
         let mut evaluator = Evaluator::new();
         let garbler_token = garbler.open(h, circuit, seed, zeros).unwrap();
-        let evaluator_token = evaluator.join(circuit, labels).unwrap();
+        let evaluator_token = evaluator.join(copy, labels).unwrap();
         Sides {
             garbler,
             evaluator,

@@ -7,6 +7,7 @@ ghost use Rattle.circuit.specs.Parts.{parts_of};
 ghost use Rattle.circuit.specs.Words.{all_below};
 ghost use Rattle.plain.specs.Plain.{bit_in};
 ghost use Rattle.steps.specs.Whole.{zero_label, label, material_before};
+ghost use Rattle.exchange.specs.Copied.{Copied};
 ghost use Rattle.exchange.specs.Course.{reached};
 ghost use Rattle.exchange.specs.Held.{Carry, Decoded};
 
@@ -20,12 +21,13 @@ use labels::kind::Label;
 
 impl<L: Label> Sides<L> {
     // Gives the input bits, garbles and evaluates every gate, and takes the outputs. Each side has a hash of its own.
-    // Eleven arguments: the memories are lent apart, and most to both sides in turn.
+    // Twelve arguments: the memories are lent apart, and most to both sides in turn.
     pub fn run<H: LabelHash<L>>(
         &mut self,
         h: &mut H,
         e: &mut H,
         circuit: &[u8],
+        copy: &[u8],
         gates: u16,
         bits: &[u8],
         zeros: &mut [L],
@@ -36,6 +38,7 @@ impl<L: Label> Sides<L> {
         outputs: &mut [u8],
     )
         requires passes { circuit_refusal circuit.now ≡ None }
+        requires copy { Copied circuit.now copy.now }
         requires gates { gates ≡ (parts_of circuit.now).sizes.gates }
         requires count { length bits.now ≡ (parts_of circuit.now).sizes.inputs }
         requires bits { all_below (λ i. slice_index bits.now i) (length bits.now) 2 ≡ true }
@@ -61,9 +64,11 @@ impl<L: Label> Sides<L> {
     {
         let garbler = &mut self.garbler;
         let evaluator = &mut self.evaluator;
-        give_inputs(garbler, evaluator, circuit, bits, zeros, labels);
+        give_inputs(garbler, evaluator, circuit, copy, bits, zeros, labels);
         garble_all(h, garbler, circuit, gates, zeros, material, scratch);
-        evaluate_all(e, evaluator, circuit, gates, labels, material, scratch);
-        take_outputs(garbler, evaluator, circuit, zeros, labels, colours, outputs);
+        evaluate_all(e, evaluator, copy, gates, labels, material, scratch);
+        take_outputs(
+            garbler, evaluator, circuit, copy, zeros, labels, colours, outputs,
+        );
     }
 }

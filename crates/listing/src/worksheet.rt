@@ -1,9 +1,19 @@
 // The worksheet: the work of both sides, wire by wire.
-ghost use Rattle.std.specs.Prelude.{◌≡◌, false, ◌++◌, length, IfOk, Some, string_bytes, MatchResult, slice_index, slice_index_or};
-ghost use Rattle.listing.specs.Lines.{wire_lines, out_line};
+ghost use Rattle.std.specs.Prelude.{◌≡◌, ℕ, ◌<◌, ◌≤◌, false, ◌++◌, length, IfOk, Some, None, string_bytes, MatchResult, slice_index, slice_index_or};
+ghost use Rattle.labels.specs.Papers.{paper};
+ghost use Rattle.hashes.specs.Draws.{offset};
+ghost use Rattle.hashes.specs.PaperHash.{paper_hash};
+ghost use Rattle.circuit.specs.Check.{circuit_refusal};
 ghost use Rattle.circuit.specs.Header.{words_in};
-ghost use Rattle.listing.specs.Worksheet.{input_refusal, worksheet_refusal, worksheet_text};
-ghost use Rattle.listing.specs.Work.{Cut, Judged};
+ghost use Rattle.circuit.specs.Parts.{parts_of};
+ghost use Rattle.plain.specs.Plain.{bit_in, plain_bit};
+ghost use Rattle.tables.specs.Table.{places};
+ghost use Rattle.exchange.specs.Copied.{Copied};
+ghost use Rattle.exchange.specs.Held.{Carry, Decoded};
+ghost use Rattle.listing.specs.Lines.{out_line};
+ghost use Rattle.listing.specs.Sheet.{offset_line, label_lines, material_line};
+ghost use Rattle.listing.specs.Work.{Cut, Ready, Judged};
+ghost use Rattle.listing.specs.Worksheet.{input_refusal, worksheet_refusal, zero_on, label_on, all_material, sheet_of, worksheet_text};
 
 use crate::lines::{add_outputs, refused};
 use crate::sheet::{add_labels, add_material, add_offset};
@@ -16,6 +26,7 @@ use hashes::draws::draw;
 use hashes::paper::PaperHash;
 use labels::kind::Label;
 use labels::paper::Paper;
+use memory::copy::open_copy;
 use memory::seed::all_zero;
 use plain::run::{all_bits, plain};
 use std::alloc::{AllocError, Global};
@@ -59,12 +70,12 @@ pub fn cut_input(input: &[u8]) -> Result<Input<'_>, Refusal>
     })
 }
 
-// An input that nothing stands against, with its wires and the bytes of its material.
+// What there is to do: an input, the wires of its circuit and the bytes of its material.
 #[derive(Clone, Copy)]
-struct Task<'a> {
-    input: Input<'a>,
-    wires: usize,
-    material: usize,
+pub struct Task<'a> {
+    pub input: Input<'a>,
+    pub wires: usize,
+    pub material: usize,
 }
 
 // The first refusal of an input, or what there is to do.
@@ -86,47 +97,85 @@ fn judge(input: &[u8]) -> Result<Task<'_>, Refusal>
     })
 }
 
-// The bit on each wire, in the clear.
-fn write_bits(input: Input, bits: &mut [bool])
+// The open copy of a circuit, on the heap.
+fn copy_of(heap: Global, circuit: &[u8]) -> Result<Vec<u8>, AllocError>
+    requires { circuit_refusal circuit.now ≡ None }
+    ensures { IfOk result (λ v. Copied circuit.now v.items) }
 {
-    let mut outputs = [0u8; 256];
-    let count = usize::from(input.sizes.outputs);
-    plain(input.circuit, input.bits, bits, &mut outputs[0..count]).unwrap();
+    let mut copy = vec![in heap; 0u8; circuit.len()]?;
+    open_copy(circuit, copy.as_mut_slice()).unwrap();
+    Ok(copy)
 }
 
 // The offset that the seed gives.
 fn offset_of(seed: &[u8]) -> Paper
+    requires { length seed.now ≡ 2 }
+    ensures { result ≡ offset paper_hash (paper.from seed.now) paper }
 {
     draw(&mut PaperHash::starting_at(0), Paper::read(seed), 0).raise()
 }
 
-// Opens both sides and runs them; they are handed out open, since the wires are wiped with them.
+// The bit on each wire, in the clear.
+fn write_bits(task: Task, bits: &mut [bool])
+    requires ready { Ready task }
+    requires room { length bits.old ≡ 1024 }
+    ensures { (w : ℕ) → w < task.entry.wires → slice_index_or bits.new w false ≡ plain_bit (parts_of task.entry.input.circuit.now) (bit_in task.entry.input.bits.now) w }
+{
+    let mut outputs = [0u8; 256];
+    let count = usize::from(task.input.sizes.outputs);
+    plain(
+        task.input.circuit,
+        task.input.bits,
+        bits,
+        &mut outputs[0..count],
+    )
+    .unwrap();
+}
+
+// Opens both sides and runs them. They are handed out open: wiping them clears the wires, which are yet to be written down.
 fn run_sides(
-    input: Input,
+    task: Task,
+    copy: &[u8],
     zeros: &mut [Paper],
     labels: &mut [Paper],
     material: &mut [u8],
     outputs: &mut [u8],
 ) -> Sides<Paper>
+    requires ready { Ready task }
+    requires copy { Copied task.input.circuit.now copy.now }
+    requires zeros_room { length zeros.old ≡ 1024 }
+    requires labels_room { length labels.old ≡ 1024 }
+    requires material_room { length material.old ≡ task.material }
+    requires outputs { length outputs.old ≡ task.input.sizes.outputs }
+    ensures garbling { result.garbler.progress.side.ended ≡ false }
+    ensures evaluating { result.evaluator.progress.side.ended ≡ false }
+    ensures zeros_wiped { result.garbler.progress.side.wires ≤ 1024 }
+    ensures labels_wiped { result.evaluator.progress.side.wires ≤ 1024 }
+    ensures zeros { Carry paper task.entry.wires (zero_on task.entry.input.circuit.now task.entry.input.seed.now task.entry.input.bits.now) zeros.new }
+    ensures labels { Carry paper task.entry.wires (label_on task.entry.input.circuit.now task.entry.input.seed.now task.entry.input.bits.now) labels.new }
+    ensures material { material.new ≡ all_material task.entry.input.circuit.now task.entry.input.seed.now task.entry.input.bits.now }
+    ensures outputs { Decoded paper (parts_of task.entry.input.circuit.now) (zero_on task.entry.input.circuit.now task.entry.input.seed.now task.entry.input.bits.now) (label_on task.entry.input.circuit.now task.entry.input.seed.now task.entry.input.bits.now) outputs.new }
 {
+    let p = task.input;
     let mut h = PaperHash::starting_at(0);
     let mut e = PaperHash::starting_at(0);
-    let mut seed = [input.seed[0], input.seed[1]];
+    let mut seed = [p.seed[0], p.seed[1]];
     let mut scratch = [Paper { word: 0 }; 256];
     let mut colours = [0u8; 256];
-    let count = outputs.len();
-    let mut sides = Sides::begin(&mut h, input.circuit, &mut seed, zeros, labels);
+    let colours = &mut colours[0..outputs.len()];
+    let mut sides = Sides::begin(&mut h, p.circuit, copy, &mut seed, zeros, labels);
     sides.run(
         &mut h,
         &mut e,
-        input.circuit,
-        input.sizes.gates,
-        input.bits,
+        p.circuit,
+        copy,
+        p.sizes.gates,
+        p.bits,
         zeros,
         labels,
         material,
         &mut scratch,
-        &mut colours[0..count],
+        colours,
         outputs,
     );
     sides
@@ -142,6 +191,9 @@ fn sheet_text(
     material: &[u8],
     outputs: &[u8],
 ) -> Result<String, AllocError>
+    requires zeros { length bits.now ≡ length zeros.now }
+    requires labels { length bits.now ≡ length labels.now }
+    ensures { IfOk result (λ t. string_bytes t ≡ offset_line offset ++ (label_lines (places paper zeros.now) (places paper labels.now) (λ w. slice_index_or bits.now w false) (length bits.now) ++ (material_line (λ k. slice_index material.now k) (length material.now) ++ out_line (λ k. slice_index outputs.now k) (length outputs.now)))) }
 {
     let mut text = String::new(heap);
     add_offset(&mut text, offset)?;
@@ -151,35 +203,42 @@ fn sheet_text(
     Ok(text)
 }
 
-// Does the work, and wipes both sides once it is written.
-fn work(heap: Global, task: Task) -> Result<String, AllocError>
+// Runs both sides, writes down what they hold, and then wipes them, also where there is no memory for the text.
+fn written(heap: Global, task: Task, copy: &[u8], material: &mut [u8]) -> Result<String, AllocError>
+    requires ready { Ready task }
+    requires copy { Copied task.input.circuit.now copy.now }
+    requires material { length material.old ≡ task.material }
+    ensures { IfOk result (λ t. string_bytes t ≡ sheet_of task.entry.input.circuit.now task.entry.input.seed.now task.entry.input.bits.now) }
 {
     let mut zeros = [Paper { word: 0 }; 1024];
     let mut labels = [Paper { word: 0 }; 1024];
     let mut bits = [false; 1024];
     let mut outputs = [0u8; 256];
-    let mut material = vec![in heap; 0u8; task.material]?;
     let w = task.wires;
     let outs = &mut outputs[0..usize::from(task.input.sizes.outputs)];
-    write_bits(task.input, &mut bits);
-    let sides = run_sides(
-        task.input,
-        &mut zeros,
-        &mut labels,
-        material.as_mut_slice(),
-        outs,
-    );
+    write_bits(task, &mut bits);
+    let sides = run_sides(task, copy, &mut zeros, &mut labels, material, outs);
     let text = sheet_text(
         heap,
         offset_of(task.input.seed),
         &zeros[0..w],
         &labels[0..w],
         &bits[0..w],
-        material.as_slice(),
+        material,
         outs,
     );
     sides.end(&mut zeros, &mut labels);
     text
+}
+
+// The text of what there is to do.
+fn work(heap: Global, task: Task) -> Result<String, AllocError>
+    requires { Ready task }
+    ensures { IfOk result (λ t. string_bytes t ≡ sheet_of task.entry.input.circuit.now task.entry.input.seed.now task.entry.input.bits.now) }
+{
+    let copy = copy_of(heap, task.input.circuit)?;
+    let mut material = vec![in heap; 0u8; task.material]?;
+    written(heap, task, copy.as_slice(), material.as_mut_slice())
 }
 
 // The text that the worksheet prints for any input.

@@ -7,8 +7,8 @@ use Rattle.exchange.specs.Course.{reached}
 use Rattle.exchange.specs.Held.{Carry}
 use Rattle.exchange.proofs.garbling.garble_all.Given as goal
 
-abbrev pub invariant-loop-_gate : goal.invariant-loop-_gate
-invariant-loop-_gate g l = record {
+abbrev pub invariant-loop-gate : goal.invariant-loop-gate
+invariant-loop-gate g l = record {
   side : l.garbler.progress.side ≡ reached g.L.Label.kind (parts_of l.circuit) (parts_of l.circuit).sizes.inputs l._gate;
   secrets : l.garbler.secrets ≡ l.initial.garbler.secrets;
   kept : g.H.LabelHash.means l.h ≡ g.H.LabelHash.means l.initial.h;

@@ -11,7 +11,7 @@ abbrev pub hex_byte : ℕ → List ℕ
 hex_byte n = hex_digit (n / 16) ∷ hex_digit (n % 16) ∷ []
 
 -- a paper label, its high byte first
-abbrev pub hex_label : Paper → List ℕ
+unfoldable pub hex_label : Paper → List ℕ
 hex_label x = hex_byte (x.word / 256) ++ hex_byte (x.word % 256)
 
 -- the bytes f 0 to f (n - 1), one behind the other

@@ -13,6 +13,7 @@ fn add_byte(text: &mut String, byte: u8) -> Result<(), AllocError>
 }
 
 // Adds a label's four digits.
+#[tactic(auto, unfolding(crate::specs::Hex::hex_label))]
 pub fn add_label(text: &mut String, label: Paper) -> Result<(), AllocError>
     ensures { OnOk result (string_bytes text.new ≡ string_bytes text.old ++ hex_label label) }
 {

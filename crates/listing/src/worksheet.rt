@@ -119,7 +119,8 @@ fn offset_of(seed: &[u8]) -> Paper
 fn write_bits(task: Task, bits: &mut [bool])
     requires ready { Ready task }
     requires room { length bits.old ≡ 1024 }
-    ensures { (w : ℕ) → w < task.entry.wires → slice_index_or bits.new w false ≡ plain_bit (parts_of task.entry.input.circuit.now) (bit_in task.entry.input.bits.now) w }
+    ensures long { length bits.new ≡ 1024 }
+    ensures bits { (w : ℕ) → w < task.entry.wires → slice_index_or bits.new w false ≡ plain_bit (parts_of task.entry.input.circuit.now) (bit_in task.entry.input.bits.now) w }
 {
     let mut outputs = [0u8; 256];
     let count = usize::from(task.input.sizes.outputs);
@@ -154,6 +155,7 @@ fn run_sides(
     ensures zeros { Carry paper task.entry.wires (zero_on task.entry.input.circuit.now task.entry.input.seed.now task.entry.input.bits.now) zeros.new }
     ensures labels { Carry paper task.entry.wires (label_on task.entry.input.circuit.now task.entry.input.seed.now task.entry.input.bits.now) labels.new }
     ensures material { material.new ≡ all_material task.entry.input.circuit.now task.entry.input.seed.now task.entry.input.bits.now }
+    ensures outputs_long { length outputs.new ≡ task.entry.input.sizes.outputs }
     ensures outputs { Decoded paper (parts_of task.entry.input.circuit.now) (zero_on task.entry.input.circuit.now task.entry.input.seed.now task.entry.input.bits.now) (label_on task.entry.input.circuit.now task.entry.input.seed.now task.entry.input.bits.now) outputs.new }
 {
     let p = task.input;

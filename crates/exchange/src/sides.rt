@@ -17,8 +17,8 @@ use labels::kind::Label;
 
 // Both sides, open: they end together, since neither token can be let go.
 pub struct Sides<L> {
-    pub garbler: Garbler<L>,
-    pub evaluator: Evaluator,
+    pub(crate) garbler: Garbler<L>,
+    pub(crate) evaluator: Evaluator,
     garbler_token: GarblerToken,
     evaluator_token: EvaluatorToken,
 }

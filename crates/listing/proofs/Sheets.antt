@@ -11,7 +11,7 @@ use Rattle.listing.specs.Work.{Ready}
 use Rattle.listing.specs.declared.worksheet.Task.{Task}
 use Rattle.circuit.specs.Parts.{parts_of}
 use Rattle.plain.specs.Plain.{bit_in, plain_bit}
-use Rattle.listing.specs.Lines.{numbers, out_line}
+use Rattle.listing.specs.Lines.{out_line}
 use Rattle.listing.specs.Sheet.{offset_line, label_line, label_lines, material_line}
 use Rattle.listing.specs.Worksheet.{zero_on, label_on, all_material, sheet_of}
 use Rattle.listing.proofs.Steps.{numbers_same}

@@ -1,5 +1,5 @@
 -- What there is to do, from what cutting, reading and the tests promise. Assumes nothing.
-use Rattle.std.proofs.Common.{◌≡◌, ℕ, ◌+◌, ◌≤◌, true, false, List, length, get_or, Some, None, sym, ap, ◌∙◌, subst, ap₂, arith}
+use Rattle.std.proofs.Common.{◌≡◌, ℕ, ◌≤◌, true, false, List, length, get_or, Some, None, sym, ap, ◌∙◌, arith}
 use Rattle.std.proofs.lemmas.Bool.Decides.{nat_tests}
 use Rattle.labels.specs.Papers.{paper}
 use Rattle.circuit.specs.Words.{all_below}
@@ -12,9 +12,8 @@ use Rattle.circuit.specs.declared.sizes.Sizes.{Sizes}
 use Rattle.circuit.specs.declared.refusal.Refusal.TheVariants.{Bit, ZeroSeed}
 use Rattle.memory.specs.Seed.{blank}
 use Rattle.listing.specs.Worksheet.{circuit_in, seed_in, bits_from, worksheet_refusal}
-use Rattle.listing.specs.Work.{Cut, Ready, Judged}
+use Rattle.listing.specs.Work.{Cut, Judged}
 use Rattle.listing.specs.declared.worksheet.Input.{Input}
-use Rattle.listing.specs.declared.worksheet.Task.{Task}
 use Rattle.listing.proofs.Inputs.{bits_refused, seed_refused, worksheet_passes}
 
 within_outputs : (s : Sizes) → within s ≡ true → s.outputs ≤ 256

@@ -1,4 +1,4 @@
-use Rattle.std.proofs.Common.{◌≡◌, ap}
+use Rattle.std.proofs.Common.{ap}
 use Rattle.circuit.specs.Lent.{parts_in}
 use Rattle.listing.proofs.Works.{bad_bits, no_seed, judged}
 use Rattle.listing.proofs.worksheet.judge.Goals as goal

@@ -1,6 +1,6 @@
 use Rattle.std.proofs.Common.{◌≡◌, ℕ, List, sym, ap, ◌∙◌}
 use Rattle.std.proofs.lemmas.Result.{IfOk-weaker}
-use Rattle.listing.specs.Worksheet.{circuit_in, seed_in, bits_from, sheet_of, worksheet_text, text_or}
+use Rattle.listing.specs.Worksheet.{sheet_of, worksheet_text, text_or}
 use Rattle.listing.specs.Work.{Judged}
 use Rattle.listing.specs.declared.worksheet.Task.{Task}
 use Rattle.listing.proofs.worksheet.worksheet_text.Goals as goal

@@ -23,4 +23,11 @@ impl Evaluator {
             progress: Progress::new(),
         }
     }
+
+    // The bytes of the material that it has read.
+    pub fn read(&self) -> usize
+        ensures { result ≡ self.now.progress.side.bytes }
+    {
+        self.progress.side.bytes
+    }
 }

@@ -1,5 +1,6 @@
 // The garbler's record, and the token of its opening.
 ghost use Rattle.std.specs.Prelude.{◌≡◌};
+ghost use Rattle.parties.specs.Marks.{is_marked};
 ghost use Rattle.parties.specs.Side.{unused};
 
 use labels::kind::Label;
@@ -31,6 +32,30 @@ impl<L: Label> Garbler<L> {
         Garbler {
             progress: Progress::new(),
             secrets,
+        }
+    }
+
+    // The bytes of its material so far.
+    pub fn written(&self) -> usize
+        ensures { result ≡ self.now.progress.side.bytes }
+    {
+        self.progress.side.bytes
+    }
+
+    // The inputs of its circuit.
+    pub fn inputs(&self) -> u16
+        ensures { result ≡ self.now.progress.side.sizes.inputs }
+    {
+        self.progress.side.sizes.inputs
+    }
+
+    // Whether an input is encoded.
+    pub fn has_encoded(&self, input: usize) -> bool
+        ensures { result ≡ is_marked self.now.progress.side.marks input }
+    {
+        match self.progress.side.marks.get(input) {
+            Some(mark) => *mark,
+            None => false,
         }
     }
 }

@@ -1,18 +1,19 @@
 -- How the refusals of a worksheet's input come about. Assumes nothing.
-use Rattle.std.proofs.Common.{◌≡◌, ℕ, ◌+◌, ◌*◌, ◌<◌, ◌≤◌, Bool, true, false, not, ◌||◌, eqb, ltb, List, [], ◌∷◌, length, get_or, take, Some, None, sym, refl, ◌∙◌, ap₂, arith}
+use Rattle.std.proofs.Common.{◌≡◌, ℕ, ◌+◌, ◌-◌, ◌*◌, ◌<◌, ◌≤◌, Bool, true, false, not, ◌||◌, eqb, ltb, List, [], ◌∷◌, length, get_or, take, drop, Some, None, sym, refl, ◌∙◌, ap₂, arith}
 use Rattle.std.proofs.lemmas.Bool.{lt-ltb, le-ltb, eq-eqb, ne_eqb, eqb-true}
-use Rattle.std.proofs.lemmas.List.{get_or-take, length-drop}
+use Rattle.std.proofs.lemmas.List.{get_or-take, length-drop, length-take-le}
 use Rattle.circuit.specs.Refusals.{first_of}
 use Rattle.circuit.specs.Words.{word_at, all_below}
 use Rattle.circuit.specs.Header.{sizes_of, within}
 use Rattle.circuit.specs.Parts.{parts_of}
 use Rattle.circuit.specs.Gates.{wires_in}
 use Rattle.circuit.specs.Check.{circuit_refusal}
+use Rattle.memory.specs.Seed.{blank}
 use Rattle.plain.specs.Plain.{plain_refusal}
 use Rattle.circuit.specs.declared.refusal.Refusal.{Refusal}
-use Rattle.circuit.specs.declared.refusal.Refusal.TheVariants.{Short, Size, Length, Memory, Bit}
+use Rattle.circuit.specs.declared.refusal.Refusal.TheVariants.{Short, Size, Length, Memory, Bit, ZeroSeed}
 use Rattle.circuit.proofs.Checks.{or_else_none}
-use Rattle.listing.specs.Worksheet.{circuit_end, circuit_in, bits_from, input_refusal, worksheet_refusal}
+use Rattle.listing.specs.Worksheet.{circuit_end, circuit_in, seed_in, bits_from, input_refusal, worksheet_refusal}
 
 -- the front of a list has the words of the list
 word_front : (n k : ℕ) (xs : List ℕ) → 2 * k + 1 < n → word_at (take n xs) k ≡ word_at xs k
@@ -52,6 +53,9 @@ module _ (input : List ℕ) where
   pub front_sizes : sizes_of (circuit_in input) ≡ sizes_of input
   front_sizes = sizes_front (circuit_end input) input (omega arith)
 
+  pub seed_count : length input ≡ circuit_end input + 2 + (sizes_of input).inputs → length (seed_in input) ≡ 2
+  seed_count h = let d : length (drop (circuit_end input) input) ≡ length input - circuit_end input = length-drop (circuit_end input) input in length-take-le 2 (drop (circuit_end input) input) (omega arith)
+
   pub bits_count : length input ≡ circuit_end input + 2 + (sizes_of input).inputs → length (bits_from input) ≡ (sizes_of input).inputs
   bits_count h = length-drop (circuit_end input + 2) input ∙ omega arith
 
@@ -69,9 +73,25 @@ pub plain_bits : (bytes bits : List ℕ) (w o : ℕ) → circuit_refusal bytes �
     → plain_refusal bytes bits w o ≡ first_of ((not (all_below (λ i. get_or bits i 0) (length bits) 2), Bit) ∷ [])
 plain_bits bytes bits w o p l e f = let r = room bytes bits w o l e f in rw (p, r)
 
-pub worksheet_at : (input : List ℕ) (n : ℕ) → input_refusal input ≡ None → circuit_refusal (circuit_in input) ≡ None → n ≡ (sizes_of input).inputs
-    → worksheet_refusal input ≡ first_of ((not (all_below (λ i. get_or (bits_from input) i 0) n 2), Bit) ∷ [])
-worksheet_at input n a b e = rw (a, b, sym e)
+-- and is accepted where they are bits
+pub plain_accepted : (bytes bits : List ℕ) (w o : ℕ) → circuit_refusal bytes ≡ None → wires_in (parts_of bytes) ≤ w → length bits ≡ (parts_of bytes).sizes.inputs → o ≡ (parts_of bytes).sizes.outputs
+    → all_below (λ i. get_or bits i 0) (length bits) 2 ≡ true → plain_refusal bytes bits w o ≡ None
+plain_accepted bytes bits w o p l e f t = plain_bits bytes bits w o p l e f ∙ rw t refl
+
+-- an input of a circuit that passes is refused for its bits, or else for its seed
+module _ (input : List ℕ) (n : ℕ) (whole : input_refusal input ≡ None) (circuit : circuit_refusal (circuit_in input) ≡ None) (count : n ≡ (sizes_of input).inputs) where
+  worksheet_at : worksheet_refusal input ≡ first_of ((not (all_below (λ i. get_or (bits_from input) i 0) n 2), Bit) ∷ (blank (seed_in input), ZeroSeed) ∷ [])
+  worksheet_at = rw (whole, circuit, sym count)
+
+  pub bits_refused : all_below (λ i. get_or (bits_from input) i 0) n 2 ≡ false → worksheet_refusal input ≡ Some Bit
+  bits_refused t = worksheet_at ∙ rw t refl
+
+  module _ (zero_one : all_below (λ i. get_or (bits_from input) i 0) n 2 ≡ true) where
+    pub seed_refused : blank (seed_in input) ≡ true → worksheet_refusal input ≡ Some ZeroSeed
+    seed_refused t = worksheet_at ∙ rw (zero_one, t) refl
+
+    pub worksheet_passes : blank (seed_in input) ≡ false → worksheet_refusal input ≡ None
+    worksheet_passes t = worksheet_at ∙ rw (zero_one, t) refl
 
 -- of three tests that are joined, none is met
 none_of : (a b d e : Bool) (x y : Refusal) → first_of ((a || (not b || not d), x) ∷ (e, y) ∷ []) ≡ None → d ≡ true

@@ -1,3 +1,6 @@
 pub mod Steps
 pub mod Inputs
 pub mod Works
+pub mod Papers
+pub mod Sheets
+pub mod Copying

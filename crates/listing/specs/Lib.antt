@@ -1,4 +1,6 @@
 pub mod Lines
+pub mod Hex
+pub mod Sheet
 pub mod Worksheet
 pub mod Work
 pub mod Dividend

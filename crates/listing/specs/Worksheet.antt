@@ -1,16 +1,42 @@
 -- The worksheet: its input, its first refusal and its text. Assumes nothing.
 use Rattle.std.specs.Prelude.{ℕ, ◌+◌, ◌*◌, not, List, [], ◌∷◌, ◌++◌, length, take, drop, Some, None, Option, ◌==◌, nat_lt, slice_index}
-use Rattle.labels.specs.Numbers.{digit}
+use Rattle.labels.specs.Papers.{paper}
+use Rattle.labels.specs.declared.paper.Paper.{Paper}
+use Rattle.hashes.specs.Draws.{offset}
+use Rattle.hashes.specs.PaperHash.{paper_hash}
 use Rattle.circuit.specs.Refusals.{first_of, or_else}
 use Rattle.circuit.specs.Words.{all_below}
 use Rattle.circuit.specs.Header.{sizes_of, within, words_in}
-use Rattle.circuit.specs.Parts.{Parts, parts_of}
-use Rattle.circuit.specs.Gates.{wires_in, output_of}
+use Rattle.circuit.specs.Parts.{parts_of}
+use Rattle.circuit.specs.Gates.{wires_in}
 use Rattle.circuit.specs.Check.{circuit_refusal}
-use Rattle.plain.specs.Plain.{bit_in, plain_bit}
 use Rattle.circuit.specs.declared.refusal.Refusal.{Refusal}
-use Rattle.circuit.specs.declared.refusal.Refusal.TheVariants.{Short, Size, Length, Bit}
-use Rattle.listing.specs.Lines.{wire_lines, out_line, refused_line}
+use Rattle.circuit.specs.declared.refusal.Refusal.TheVariants.{Short, Size, Length, Bit, ZeroSeed}
+use Rattle.plain.specs.Plain.{bit_in, plain_bit}
+use Rattle.memory.specs.Seed.{blank}
+use Rattle.steps.specs.Whole.{zero_label, label, material_before}
+use Rattle.exchange.specs.Held.{decoded_bit}
+use Rattle.listing.specs.Lines.{out_line, refused_line}
+use Rattle.listing.specs.Sheet.{offset_line, label_lines, material_line}
+
+-- what is shown of a circuit, a seed and input bits, under the paper hash
+module _ (bytes seed bits : List ℕ) where
+  abbrev pub zero_on : ℕ → Paper
+  zero_on w = zero_label paper paper_hash (paper.from seed) (parts_of bytes) w
+
+  abbrev pub label_on : ℕ → Paper
+  label_on w = label paper paper_hash (paper.from seed) (parts_of bytes) (bit_in bits) w
+
+  abbrev pub all_material : List ℕ
+  all_material = material_before paper paper_hash (paper.from seed) (parts_of bytes) (parts_of bytes).sizes.gates
+
+  -- the offset, a line for each wire, the material, and the output bits
+  abbrev pub sheet_of : List ℕ
+  sheet_of =
+      offset_line (offset paper_hash (paper.from seed) paper)
+      ++ (label_lines zero_on label_on (plain_bit (parts_of bytes) (bit_in bits)) (wires_in (parts_of bytes))
+      ++ (material_line (λ k. slice_index all_material k) (length all_material)
+      ++ out_line (decoded_bit paper (parts_of bytes) zero_on label_on) (parts_of bytes).sizes.outputs))
 
 module _ (input : List ℕ) where
   -- the circuit ends where its sizes say; two seed bytes and a byte for each input follow
@@ -19,6 +45,9 @@ module _ (input : List ℕ) where
 
   abbrev pub circuit_in : List ℕ
   circuit_in = take circuit_end input
+
+  abbrev pub seed_in : List ℕ
+  seed_in = take 2 (drop circuit_end input)
 
   abbrev pub bits_from : List ℕ
   bits_from = drop (circuit_end + 2) input
@@ -31,22 +60,18 @@ module _ (input : List ℕ) where
       ∷ (not (length input == circuit_end + 2 + (sizes_of input).inputs), Length)
       ∷ [])
 
-  -- then the circuit, and then the bits
+  -- then the circuit, then the bits, and then the seed
   abbrev pub worksheet_refusal : Option Refusal
   worksheet_refusal =
       or_else input_refusal
       (or_else (circuit_refusal circuit_in)
-      (first_of ((not (all_below (λ i. slice_index bits_from i) (sizes_of input).inputs 2), Bit) ∷ [])))
-
-  -- a line for each wire, then the outputs
-  abbrev pub listing_of : Parts → List ℕ
-  listing_of c =
-      wire_lines (plain_bit c (bit_in bits_from)) (wires_in c)
-      ++ out_line (λ o. digit (plain_bit c (bit_in bits_from) (output_of c o))) c.sizes.outputs
+      (first_of ((not (all_below (λ i. slice_index bits_from i) (sizes_of input).inputs 2), Bit)
+      ∷ (blank seed_in, ZeroSeed)
+      ∷ [])))
 
   abbrev pub text_or : Option Refusal → List ℕ
   text_or (Some why) = refused_line why
-  text_or None = listing_of (parts_of circuit_in)
+  text_or None = sheet_of circuit_in seed_in bits_from
 
   abbrev pub worksheet_text : List ℕ
   worksheet_text = text_or worksheet_refusal

@@ -2,5 +2,7 @@
 #![tactic(auto)]
 
 pub mod dividend;
+mod hex;
 mod lines;
+mod sheet;
 pub mod worksheet;

@@ -4,7 +4,7 @@ use Rattle.std.proofs.lemmas.Result.{err_from_is_err_and}
 use Rattle.circuit.specs.Header.{sizes_of, within, words_in}
 use Rattle.circuit.specs.declared.sizes.Sizes.{Sizes}
 use Rattle.listing.specs.Worksheet.{circuit_end}
-use Rattle.listing.proofs.Inputs.{input_short, input_size, input_length, input_passes, front_sizes, bits_count}
+use Rattle.listing.proofs.Inputs.{input_short, input_size, input_length, input_passes, front_sizes, seed_count, bits_count}
 use Rattle.listing.proofs.worksheet.cut_input.Goals as goal
 
 pub returns-in_err-sizes : goal.returns-in_err-sizes
@@ -34,6 +34,7 @@ returns c =
     let ok = sym (c.if-not-within_limits.ensures ∙ ap within e.1) in
     let n = sum_of c.in_ok-sizes.sizes (sizes_of c.args.input.now) _ _ e.1 c.words_of-end.ensures c.from.ensures in
     let w : 2 * c.words_of-end.result ≡ circuit_end c.args.input.now = ap (λ (k : ℕ). 2 * k) (c.words_of-end.ensures ∙ ap words_in e.1) in
+    let two : 2 * c.words_of-end.result + 2 - 2 * c.words_of-end.result ≡ 2 = omega arith in
     let w0 : 2 * c.words_of-end.result - 0 ≡ circuit_end c.args.input.now = omega arith in
     let l = c.if-input-end.false ∙ n in
     record {
@@ -41,6 +42,8 @@ returns c =
       sizes = e.1;
       limits = ok;
       circuit = ap (λ (k : ℕ). take k c.args.input.now) w0;
+      seed = ap₂ (λ (k j : ℕ). take k (drop j c.args.input.now)) two w;
+      seed_long = seed_count c.args.input.now l;
       bits = take_rest c.args.input.now (2 * c.words_of-end.result + 2) ∙ ap (λ (k : ℕ). drop (k + 2) c.args.input.now) w;
       front = front_sizes c.args.input.now;
       count = bits_count c.args.input.now l;

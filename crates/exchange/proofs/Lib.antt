@@ -1,0 +1,9 @@
+pub mod Marks
+pub mod Reached
+pub mod Accepted
+pub mod Carried
+pub mod Copies
+pub mod Gates
+pub mod Turns
+pub mod Decoding
+pub mod Runs

@@ -1,5 +1,5 @@
 -- The outputs of the side's own circuit. Assumes nothing.
-use Rattle.std.proofs.Common.{◌≡◌, ℕ, ◌≤◌, List, ap, ◌∙◌, arith}
+use Rattle.std.proofs.Common.{◌≡◌, ℕ, ◌<◌, ◌≤◌, List, ap, ◌∙◌, arith}
 use Rattle.circuit.specs.Words.{word_at}
 use Rattle.circuit.specs.Parts.{Parts}
 use Rattle.circuit.specs.Gates.{output_of, wires_in}
@@ -23,3 +23,11 @@ outputs_ready s bytes c w wires colours p its room h =
       count = h;
       order = below_all (word_at c.outputs) colours wires (λ i q. let b = all i (omega arith) in omega arith);
     }
+
+-- an output's wire is there
+pub output_there : (s : Side) (bytes : List ℕ) (c : Parts) (w wires output : ℕ) → Passed bytes c w → Its s c w → w ≤ wires → output < s.sizes.outputs → output_of c output < wires
+output_there s bytes c w wires output p its room h =
+    let o : s.sizes.outputs ≡ c.sizes.outputs = ap (λ z. z.outputs) its.sizes in
+    let k = p.count in
+    let b = each_below (output_of c) c.sizes.outputs (wires_in c) (outputs_pass bytes c w p) output (omega arith) in
+    omega arith

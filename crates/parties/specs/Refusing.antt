@@ -5,12 +5,13 @@ use Rattle.labels.specs.Kind.{Kind}
 use Rattle.hashes.specs.Draws.{offset}
 use Rattle.circuit.specs.Words.{all_below}
 use Rattle.circuit.specs.Parts.{parts_of}
-use Rattle.circuit.specs.Gates.{form_of, wires_in}
+use Rattle.circuit.specs.Gates.{form_of, output_of, wires_in}
 use Rattle.circuit.specs.Material.{gate_bytes}
 use Rattle.circuit.specs.Check.{circuit_refusal}
 use Rattle.circuit.specs.Refusals.{first_of, or_else}
 use Rattle.circuit.specs.declared.refusal.Refusal.{Refusal}
-use Rattle.circuit.specs.declared.refusal.Refusal.TheVariants.{Turn, Memory, Material, Number, Bit, Again, ZeroSeed, Colourless}
+use Rattle.circuit.specs.declared.refusal.Refusal.TheVariants.{Turn, Memory, Material, Number, Bit, Again, ZeroSeed, Colourless, Foreign}
+use Rattle.tables.specs.Table.{places}
 use Rattle.memory.specs.Seed.{blank}
 use Rattle.parties.specs.declared.side.Side.{Side}
 use Rattle.parties.specs.declared.state.Call.TheVariants.{Join, Deliver, Evaluate, Decode}
@@ -25,6 +26,10 @@ begin_refusal bytes turn wires =
     (first_of ((not turn, Turn)
     ∷ (nat_lt wires (wires_in (parts_of bytes)), Memory)
     ∷ []))
+
+-- a label is neither that of 0 nor that of 1 on a wire with the zero label z
+abbrev pub is_foreign : {L : Type 0} → Kind L → L → L → L → Bool
+is_foreign K Δ z label = not (K.same label z || K.same label (K.xor z Δ))
 
 module _ (s : Side) (bytes : List ℕ) where
   -- a side goes on with its own circuit
@@ -55,6 +60,14 @@ module _ (s : Side) (bytes : List ℕ) where
       or_else (turn_refusal turn)
       (first_of ((nat_lt wires (wires_in (parts_of bytes)) || not (colours == s.sizes.outputs), Memory) ∷ []))
 
+  -- one output: certify
+  abbrev pub output_refusal : Bool → ℕ → ℕ → Option Refusal
+  output_refusal turn wires output =
+      or_else (turn_refusal turn)
+      (first_of ((nat_lt wires (wires_in (parts_of bytes)), Memory)
+      ∷ (nat_le s.sizes.outputs output, Number)
+      ∷ []))
+
   -- the garbler's calls
   module _ {L : Type 0} (K : Kind L) where
     -- before the hash is called
@@ -72,6 +85,11 @@ module _ (s : Side) (bytes : List ℕ) where
 
     abbrev pub garble_refusal : ℕ → ℕ → ℕ → Option Refusal
     garble_refusal wires scratch material = step_refusal K (not s.ended && gates_left s) wires scratch material
+
+    abbrev pub certify_refusal : L → List L → ℕ → L → Option Refusal
+    certify_refusal Δ wires output label =
+        or_else (output_refusal (not s.ended && not (gates_left s)) (length wires) output)
+        (first_of ((is_foreign K Δ (places K wires (output_of (parts_of bytes) output)) label, Foreign) ∷ []))
 
   abbrev pub encode_refusal : ℕ → ℕ → ℕ → Option Refusal
   encode_refusal wires input bit = input_refusal (not s.ended) wires input bit

@@ -1,10 +1,11 @@
 // What every call decides first: the circuit, whose it is, and the memory.
 ghost use Rattle.std.specs.Prelude.{◌≡◌, ◌<◌, ◌≤◌, true, not, ◌&&◌, Some, None, OnOk, IfOk, IfErr};
+ghost use Rattle.circuit.specs.Gates.{output_of};
 ghost use Rattle.circuit.specs.Lent.{parts_in};
 ghost use Rattle.circuit.specs.Parts.{parts_of};
 ghost use Rattle.circuit.specs.Passed.{Passed};
 ghost use Rattle.parties.specs.Turns.{is_its, Its, gates_left};
-ghost use Rattle.parties.specs.Refusing.{begin_refusal, turn_refusal, step_refusal, input_refusal, outputs_refusal, wipe_refusal};
+ghost use Rattle.parties.specs.Refusing.{begin_refusal, turn_refusal, step_refusal, input_refusal, output_refusal, outputs_refusal, wipe_refusal};
 ghost use Rattle.parties.specs.Ready.{StepReady, OutputsReady};
 
 use crate::progress::Progress;
@@ -12,6 +13,7 @@ use crate::side::Side;
 use circuit::check::read;
 use circuit::passed::Circuit;
 use circuit::refusal::Refusal;
+use circuit::words::word_at;
 use labels::kind::Label;
 
 // The circuit that a side begins with, and whether there is memory for its wires.
@@ -161,5 +163,28 @@ impl Progress {
             return Err(Refusal::Memory);
         }
         Ok(c.arrays.outputs)
+    }
+
+    // An output that is certified: its wire.
+    pub fn may_output(
+        &self,
+        turn: bool,
+        circuit: &[u8],
+        wires: usize,
+        output: usize,
+    ) -> Result<u16, Refusal>
+        ensures accepted { OnOk result (output_refusal self.now.side circuit.now turn wires output ≡ None) }
+        ensures wire { IfOk result (λ w. w ≡ output_of (parts_of circuit.now) output) }
+        ensures room { IfOk result (λ w. w < wires) }
+        ensures refused { IfErr result (λ why. output_refusal self.now.side circuit.now turn wires output ≡ Some why) }
+    {
+        let c = self.its_circuit(turn, circuit)?;
+        if wires < usize::from(c.wires) {
+            return Err(Refusal::Memory);
+        }
+        if output >= usize::from(self.side.sizes.outputs) {
+            return Err(Refusal::Number);
+        }
+        Ok(word_at(c.arrays.outputs, output))
     }
 }

@@ -4,3 +4,7 @@ mod Facts
 mod Between
 mod Circuits
 mod Keeping
+mod AlikeCases
+mod AlikeLengths
+mod AlikeRefusals
+mod Alike

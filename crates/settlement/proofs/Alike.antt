@@ -1,15 +1,12 @@
 -- Settlements alike in all but seeds, row words, bits 0 or 1 and what carries them show the same. Assumes nothing.
-use Rattle.std.proofs.Common.{◌≡◌, ℕ, zero, suc, ◌+◌, ◌*◌, ◌<◌, ◌≤◌, Bool, true, false, min, not, ◌&&◌, ◌||◌, leb, ltb, List, length, take, slice_index, Some, None, Option, refl, sym, ap, ap₂, ◌∙◌, subst, inl, inr, arith}
+use Rattle.std.proofs.Common.{◌≡◌, ℕ, zero, suc, ◌+◌, ◌*◌, ◌<◌, ◌≤◌, true, not, ◌&&◌, ◌||◌, leb, ltb, List, length, take, Some, None, Option, refl, sym, ap, ap₂, ◌∙◌, subst, inl, inr, arith}
 use Rattle.std.proofs.lemmas.Bool.{cases_Bool}
-use Rattle.std.proofs.lemmas.List.{length-take}
 use Rattle.labels.specs.Kind.{Kind}
 use Rattle.hashes.specs.Count.{counted}
-use Rattle.circuit.specs.Words.{all_below}
 use Rattle.circuit.specs.Parts.{Parts, parts_of}
 use Rattle.circuit.specs.Forms.{fan_in, fan_out, makes}
 use Rattle.circuit.specs.Gates.{form_of, wires_in}
 use Rattle.circuit.specs.Material.{gate_bits, gate_bytes}
-use Rattle.circuit.specs.Check.{circuit_refusal}
 use Rattle.circuit.specs.declared.refusal.Refusal.{Refusal}
 use Rattle.memory.specs.Copy.{open_copy}
 use Rattle.parties.specs.declared.side.Side.{Side}
@@ -25,8 +22,8 @@ use Rattle.settlement.specs.State.{State}
 use Rattle.settlement.specs.Lines.{call_at, line_at, bare}
 use Rattle.settlement.specs.Stands.{is_shown, colours_by, stands, refusal}
 use Rattle.settlement.specs.Accepted.{Accepted}
-use Rattle.settlement.specs.Runs.{Settlement, Step, Begun, Ran}
-use Rattle.settlement.specs.Claims.{SameCall, SameButRows, SameLengths, Alike, SameLine}
+use Rattle.settlement.specs.Runs.{Settlement, Step, Ran}
+use Rattle.settlement.specs.Claims.{SameCall, SameLengths, Alike, SameLine}
 use Rattle.settlement.specs.declared.call.Call.{Call}
 use Rattle.settlement.specs.declared.call.Call.TheVariants.{Garble, Encode, Deliver, Evaluate, Colours, Decode}
 use Rattle.settlement.specs.declared.line.Answer.{Answer}
@@ -94,7 +91,7 @@ shown_length (Some n) xs ys l = lent_long n xs ys l
 shown_length None xs ys l = refl
 
 module _ {L : Type 0} (K : Kind L) (r o : List ℕ) (turns : SameTurns r o) (copies : SameTurns (open_copy r) (open_copy o))
-  (s t : State L) (same : SamePublic s t) (s_bits : AreBits s) (t_bits : AreBits t) where
+    (s t : State L) (same : SamePublic s t) (s_bits : AreBits s) (t_bits : AreBits t) where
   stands_same : (x : Call) (y : ℕ) → stands t (with_bit x y) ≡ stands s x
   stands_same (Garble n m) y = refl
   stands_same (Encode i b) y = refl
@@ -138,7 +135,7 @@ module _ {L : Type 0} (K : Kind L) (r o : List ℕ) (turns : SameTurns r o) (cop
   refusal_same (Decode n) y e =
       (λ i. decode_refusal (same.evaluator i) (open_copy o) (same.lengths.labels i) (colours_by t.shown t.colours) (outputs_lent n i))
       ∙ decode_same (open_copy r) (open_copy o) copies s.evaluator (allowed (state_of s.evaluator) DecodeCall) (length s.labels) (length (take n s.outputs)) (colours_by s.shown s.colours) (colours_by t.shown t.colours)
-          shown_same (t_bits ∙ sym s_bits)
+      shown_same (t_bits ∙ sym s_bits)
 
   -- the next gate of either side
   garbler_form : form_of (parts_of o) t.garbler.next ≡ form_of (parts_of r) s.garbler.next
@@ -284,18 +281,20 @@ module _ {L : Type 0} (K : Kind L) (r o : Settlement L) (n m : ℕ) (r_ran : Ran
       let p = r_ran.step k l in
       let q = o_ran.step k h in
       let lengths = lengths_kept (r.at k) (o.at k) (r.at (suc k)) (o.at (suc k)) held.public.lengths
-          (step_lengths K r.garbler_hash r.evaluator_hash r.circuit (r.at k) (line_at r.lines k).answer (r.at (suc k)) (call_at r.calls k) p)
-          (step_lengths K o.garbler_hash o.evaluator_hash o.circuit (o.at k) (line_at o.lines k).answer (o.at (suc k)) (call_at o.calls k) q)
+      (step_lengths K r.garbler_hash r.evaluator_hash r.circuit (r.at k) (line_at r.lines k).answer (r.at (suc k)) (call_at r.calls k) p)
+      (step_lengths K o.garbler_hash o.evaluator_hash o.circuit (o.at k) (line_at o.lines k).answer (o.at (suc k)) (call_at o.calls k) q)
       in
       let after = call_same K r.circuit o.circuit turns copies (r.at k) (o.at k) held.public held.r_bits held.o_bits
-          r.garbler_hash r.evaluator_hash o.garbler_hash o.evaluator_hash (line_at r.lines k).answer (line_at o.lines k).answer (r.at (suc k)) (o.at (suc k)) lengths
-          (call_at r.calls k) (call_at o.calls k) (alike.calls k) p q
-      in
-      (after.answer, record {
-        public = after.public;
-        r_bits = step_bits K r.garbler_hash r.evaluator_hash r.circuit (r.at k) (line_at r.lines k).answer (r.at (suc k)) held.r_bits (call_at r.calls k) p;
-        o_bits = step_bits K o.garbler_hash o.evaluator_hash o.circuit (o.at k) (line_at o.lines k).answer (o.at (suc k)) held.o_bits (call_at o.calls k) q;
-      })
+      r.garbler_hash r.evaluator_hash o.garbler_hash o.evaluator_hash (line_at r.lines k).answer (line_at o.lines k).answer (r.at (suc k)) (o.at (suc k)) lengths
+      (call_at r.calls k) (call_at o.calls k) (alike.calls k) p q
+      in (
+        after.answer,
+        record {
+          public = after.public;
+          r_bits = step_bits K r.garbler_hash r.evaluator_hash r.circuit (r.at k) (line_at r.lines k).answer (r.at (suc k)) held.r_bits (call_at r.calls k) p;
+          o_bits = step_bits K o.garbler_hash o.evaluator_hash o.circuit (o.at k) (line_at o.lines k).answer (o.at (suc k)) held.o_bits (call_at o.calls k) q;
+        },
+      )
 
   held_at : (k : ℕ) → k ≤ n → k ≤ m → Held k
   held_at zero l h = record {

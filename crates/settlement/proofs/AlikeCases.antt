@@ -1,5 +1,5 @@
 -- What becomes of a call: it leaves all as it was, or is accepted. Assumes nothing.
-use Rattle.std.proofs.Common.{◌≡◌, ℕ, Bool, true, false, List, Some, None, Option, refl, ap, inl, inr}
+use Rattle.std.proofs.Common.{◌≡◌, ℕ, true, false, List, Some, None, Option, refl, ap, inl, inr}
 use Rattle.std.proofs.lemmas.Bool.{cases_Bool}
 use Rattle.labels.specs.Kind.{Kind}
 use Rattle.circuit.specs.declared.refusal.Refusal.{Refusal}

@@ -1,6 +1,6 @@
 -- Each call keeps the lengths of all memories, and colours shown are 0 or 1. Assumes nothing.
-use Rattle.std.proofs.Common.{◌≡◌, ℕ, ◌+◌, ◌*◌, ◌<◌, ◌≤◌, Bool, true, false, not, ◌&&◌, List, ◌++◌, length, take, drop, replicate, slice_index, Some, None, Option, refl, sym, ap, ◌∙◌, subst, arith}
-use Rattle.std.proofs.lemmas.List.{length-append, length-take, length-take-le, length-drop, length-set, length-replicate, take-append-drop, take_at, get_or_append_left}
+use Rattle.std.proofs.Common.{◌≡◌, ℕ, ◌+◌, ◌<◌, ◌≤◌, Bool, true, false, not, ◌&&◌, List, ◌++◌, length, take, drop, replicate, slice_index, None, refl, sym, ap, ◌∙◌, subst, arith}
+use Rattle.std.proofs.lemmas.List.{length-append, length-take, length-take-le, length-drop, length-set, length-replicate, take-append-drop, take_at}
 use Rattle.labels.specs.Kind.{Kind}
 use Rattle.labels.specs.Numbers.{digit}
 use Rattle.circuit.specs.Parts.{parts_of}
@@ -8,7 +8,7 @@ use Rattle.circuit.specs.Words.{word_at, all_below}
 use Rattle.circuit.proofs.Bounds.{below_all}
 use Rattle.gates.specs.Bytes.{laid}
 use Rattle.laws.proofs.Lengths.{material_long}
-use Rattle.memory.specs.Outputs.{colour_at, colours_of, decoded_at}
+use Rattle.memory.specs.Outputs.{colour_at, colours_of}
 use Rattle.parties.specs.Turns.{gates_left}
 use Rattle.steps.specs.Gate.{gate_material}
 use Rattle.tables.specs.Material.{listed}
@@ -23,7 +23,7 @@ use Rattle.settlement.specs.declared.call.Call.{Call}
 use Rattle.settlement.specs.declared.call.Call.TheVariants.{Garble, Encode, Deliver, Evaluate, Colours, Decode}
 use Rattle.settlement.specs.declared.line.Answer.{Answer}
 use Rattle.settlement.proofs.Facts.{step_free}
-use Rattle.settlement.proofs.AlikeCases.{Outcome, stays, goes, outcome}
+use Rattle.settlement.proofs.AlikeCases.{stays, goes, outcome}
 
 -- a memory whose front was replaced by as much
 part_long : {X : Type 0} (n : ℕ) (xs part : List X) → length part ≡ length (take n xs) → length (part ++ drop n xs) ≡ length xs
@@ -82,7 +82,7 @@ module _ {L : Type 0} (K : Kind L) (F E : L → ℕ → L) (bytes : List ℕ) (s
         scratch = ap (λ (z : State L). length z.scratch) acc.leaves ∙ part_long n s.scratch (replicate (length (take n s.scratch)) K.zero) (length-replicate (length (take n s.scratch)) K.zero);
         material = ap (λ (z : State L). length z.material) acc.leaves
             ∙ part_long m s.material (laid s.garbler.bytes (gate_material (parts_of bytes) s.garbler.next K (places K s.zeros) F s.seed s.offset) (take m s.material))
-              (laid_long s.garbler.bytes (gate_material (parts_of bytes) s.garbler.next K (places K s.zeros) F s.seed s.offset) (take m s.material) (omega arith));
+            (laid_long s.garbler.bytes (gate_material (parts_of bytes) s.garbler.next K (places K s.zeros) F s.seed s.offset) (take m s.material) (omega arith));
         colours = ap (λ (z : State L). length z.colours) acc.leaves;
         outputs = ap (λ (z : State L). length z.outputs) acc.leaves;
       }
@@ -155,9 +155,9 @@ bits_shown f m rest =
     let front : take m (bits ++ rest) ≡ bits = take_at bits rest m long in
     ap (λ (xs : List ℕ). all_below (λ i. slice_index xs i) (length xs) 2) front
     ∙ below_all (λ i. slice_index bits i) (length bits) 2 (λ k l.
-        let at : slice_index bits k ≡ digit (f k) = get_or_listed (λ k. digit (f k)) m k 0 (omega arith) in
-        let low = digit_low (f k) in
-        omega arith)
+    let at : slice_index bits k ≡ digit (f k) = get_or_listed (λ k. digit (f k)) m k 0 (omega arith) in
+    let low = digit_low (f k) in
+    omega arith)
 
 module _ {L : Type 0} (K : Kind L) (F E : L → ℕ → L) (bytes : List ℕ) (s : State L) (a : Answer L) (t : State L) (bits : AreBits s) where
   accepted_bits : (call : Call) → Accepted K bytes s a t F E call → AreBits t

@@ -1,5 +1,5 @@
 -- Circuits alike in all but the rows refuse alike. Assumes nothing.
-use Rattle.std.proofs.Common.{◌≡◌, ℕ, ◌+◌, ◌*◌, Bool, true, not, ◌&&◌, ◌||◌, eqb, leb, ltb, List, [], ◌∷◌, length, replicate, slice_index, Some, None, Option, refl, sym, ap, ap₂, ◌∙◌}
+use Rattle.std.proofs.Common.{◌≡◌, ℕ, ◌+◌, ◌*◌, Bool, not, ◌&&◌, ◌||◌, eqb, leb, ltb, List, [], ◌∷◌, length, replicate, slice_index, None, refl, sym, ap, ◌∙◌}
 use Rattle.labels.specs.Kind.{Kind}
 use Rattle.circuit.specs.Words.{word_at, all_below}
 use Rattle.circuit.specs.Parts.{Parts, parts_of}
@@ -10,7 +10,6 @@ use Rattle.circuit.specs.Refusals.{first_of, or_else}
 use Rattle.circuit.specs.declared.refusal.Refusal.TheVariants.{Turn, Memory, Material, Number, Bit, Again}
 use Rattle.memory.specs.Copy.{open_copy}
 use Rattle.laws.proofs.Opening.{parts_open, passes_open}
-use Rattle.laws.specs.Opened.{opened}
 use Rattle.parties.specs.declared.side.Side.{Side}
 use Rattle.parties.specs.Marks.{is_marked}
 use Rattle.parties.specs.Turns.{is_its}
@@ -85,23 +84,23 @@ module _ (r o : List ℕ) (same : SameTurns r o) (s : Side) where
   pub step_same : {L : Type 0} (K : Kind L) (turn : Bool) (wires scratch material : ℕ) → step_refusal s o K turn wires scratch material ≡ step_refusal s r K turn wires scratch material
   step_same K turn wires scratch material =
       (λ i. or_else (turn_same turn i)
-        (first_of ((ltb wires (same.wires i) || ltb scratch 256, Memory)
-        ∷ (ltb material (s.bytes + gate_bytes (8 * K.width) (same.forms s.next i)), Material)
-        ∷ [])))
+      (first_of ((ltb wires (same.wires i) || ltb scratch 256, Memory)
+      ∷ (ltb material (s.bytes + gate_bytes (8 * K.width) (same.forms s.next i)), Material)
+      ∷ [])))
 
   pub input_same : (turn : Bool) (wires input x y : ℕ) → ltb 1 y ≡ ltb 1 x → input_refusal s o turn wires input y ≡ input_refusal s r turn wires input x
   input_same turn wires input x y e =
       (λ i. or_else (turn_same turn i)
-        (first_of ((ltb wires (same.wires i), Memory)
-        ∷ (leb s.sizes.inputs input, Number)
-        ∷ (e i, Bit)
-        ∷ (is_marked s.marks input, Again)
-        ∷ [])))
+      (first_of ((ltb wires (same.wires i), Memory)
+      ∷ (leb s.sizes.inputs input, Number)
+      ∷ (e i, Bit)
+      ∷ (is_marked s.marks input, Again)
+      ∷ [])))
 
   pub outputs_same : (turn : Bool) (wires colours : ℕ) → outputs_refusal s o turn wires colours ≡ outputs_refusal s r turn wires colours
   outputs_same turn wires colours =
       (λ i. or_else (turn_same turn i)
-        (first_of ((ltb wires (same.wires i) || not (eqb colours s.sizes.outputs), Memory) ∷ [])))
+      (first_of ((ltb wires (same.wires i) || not (eqb colours s.sizes.outputs), Memory) ∷ [])))
 
   -- with colours that are bits, or not, alike
   pub decode_same : (turn : Bool) (wires outputs : ℕ) (xs ys : List ℕ) → length ys ≡ length xs → all_below (λ k. slice_index ys k) (length ys) 2 ≡ all_below (λ k. slice_index xs k) (length xs) 2
@@ -109,5 +108,5 @@ module _ (r o : List ℕ) (same : SameTurns r o) (s : Side) where
       ≡ or_else (outputs_refusal s r turn wires (length xs)) (first_of ((not (eqb outputs s.sizes.outputs), Memory) ∷ (not (all_below (λ k. slice_index xs k) (length xs) 2), Bit) ∷ []))
   decode_same turn wires outputs xs ys long bits =
       let first : outputs_refusal s o turn wires (length ys) ≡ outputs_refusal s r turn wires (length xs) =
-          outputs_same turn wires (length ys) ∙ ap (outputs_refusal s r turn wires) long in
+      outputs_same turn wires (length ys) ∙ ap (outputs_refusal s r turn wires) long in
       (λ i. or_else (first i) (first_of ((not (eqb outputs s.sizes.outputs), Memory) ∷ (not (bits i), Bit) ∷ [])))

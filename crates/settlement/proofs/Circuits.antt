@@ -1,22 +1,19 @@
 -- What a circuit that passed tells, and its material. Assumes nothing.
-use Rattle.std.proofs.Common.{◌≡◌, ℕ, zero, suc, ◌+◌, ◌*◌, ◌<◌, ◌≤◌, Bool, true, false, not, eqb, ltb, List, [], ◌∷◌, ◌++◌, length, take, drop, None, Option, refl, ap, sym, ◌∙◌, inl, inr, arith}
+use Rattle.std.proofs.Common.{◌≡◌, ℕ, zero, suc, ◌+◌, ◌*◌, ◌<◌, ◌≤◌, true, not, eqb, ltb, List, [], ◌∷◌, ◌++◌, length, take, drop, None, refl, ap, sym, ◌∙◌, inl, inr, arith}
 use Rattle.std.proofs.lemmas.Bool.{cases_lt, cases_Bool}
 use Rattle.std.proofs.lemmas.List.{length-append, length-drop, take_all, drop_at, take-append-le, drop-append-le}
 use Rattle.labels.specs.Kind.{Kind}
 use Rattle.hashes.specs.Draws.{offset}
-use Rattle.circuit.specs.Words.{all_below}
 use Rattle.circuit.specs.Header.{sizes_of, within, words_in}
 use Rattle.circuit.specs.Parts.{Parts, parts_of}
-use Rattle.circuit.specs.Gates.{form_of, output_of, made_before, wires_in}
+use Rattle.circuit.specs.Gates.{form_of, output_of, wires_in}
 use Rattle.circuit.specs.Material.{gate_bytes}
-use Rattle.circuit.specs.Check.{size_refusal, gates_refusal, outputs_refusal, circuit_refusal}
-use Rattle.circuit.specs.Refusals.{first_of, or_else}
+use Rattle.circuit.specs.Check.{size_refusal, gates_refusal, circuit_refusal}
 use Rattle.circuit.specs.declared.refusal.Refusal.TheVariants.{Short, Size, Length}
 use Rattle.circuit.proofs.Bounds.{each_below}
 use Rattle.circuit.proofs.Checks.{or_else_none, only_none}
 use Rattle.circuit.proofs.Circuits.{within_inputs}
 use Rattle.gates.specs.Bytes.{part}
-use Rattle.steps.specs.Gate.{gate_material}
 use Rattle.steps.specs.Whole.{zero_label, material_at, material_before}
 use Rattle.laws.proofs.Lengths.{material_long}
 use Rattle.settlement.proofs.Facts.{passed}

@@ -1,6 +1,6 @@
 -- What it tells that a call is not refused. Assumes nothing.
-use Rattle.std.proofs.Common.{◌≡◌, ℕ, ◌+◌, ◌*◌, ◌<◌, ◌≤◌, Bool, true, false, not, ◌&&◌, ◌||◌, eqb, leb, ltb, List, [], ◌∷◌, length, Some, None, Option, refl, ap, ap₂, sym, ◌∙◌, arith}
-use Rattle.std.proofs.lemmas.Bool.{cases_Bool, eqb-true}
+use Rattle.std.proofs.Common.{◌≡◌, ℕ, ◌+◌, ◌*◌, ◌<◌, ◌≤◌, Bool, true, false, not, ◌&&◌, ◌||◌, eqb, leb, ltb, List, [], ◌∷◌, Some, None, refl, sym, arith}
+use Rattle.std.proofs.lemmas.Bool.{eqb-true}
 use Rattle.std.proofs.lemmas.Bool.Decides.{nat_tests}
 use Rattle.labels.specs.Kind.{Kind}
 use Rattle.labels.specs.Longs.{and_left, and_right}
@@ -8,7 +8,7 @@ use Rattle.circuit.specs.Parts.{Parts, parts_of}
 use Rattle.circuit.specs.Gates.{form_of, made_before, wires_in}
 use Rattle.circuit.specs.Material.{gate_bytes}
 use Rattle.circuit.specs.Check.{circuit_refusal}
-use Rattle.circuit.specs.Refusals.{first_of, or_else}
+use Rattle.circuit.specs.Refusals.{first_of}
 use Rattle.circuit.specs.declared.refusal.Refusal.{Refusal}
 use Rattle.circuit.specs.declared.sizes.Sizes.{Sizes}
 use Rattle.circuit.specs.declared.refusal.Refusal.TheVariants.{Turn, Memory, Material, Number, Bit, Again}
@@ -29,7 +29,7 @@ pub passed : (b : Bool) (x : Refusal) (rest : List (Bool × Refusal)) → first_
 passed true x rest e = some_none x e
 passed false x rest e = (refl, e)
 
-two_passed : (a b : Bool) (x y : Refusal) → first_of ((a, x) ∷ (b, y) ∷ []) ≡ None → (a ≡ false) × (b ≡ false)
+pub two_passed : (a b : Bool) (x y : Refusal) → first_of ((a, x) ∷ (b, y) ∷ []) ≡ None → (a ≡ false) × (b ≡ false)
 two_passed a b x y e = let p = passed a x ((b, y) ∷ []) e in (p.0, (passed b y [] p.1).0)
 
 four_passed : (a b c d : Bool) (x y z w : Refusal) → first_of ((a, x) ∷ (b, y) ∷ (c, z) ∷ (d, w) ∷ []) ≡ None → (a ≡ false) × (b ≡ false) × (c ≡ false) × (d ≡ false)
@@ -39,7 +39,7 @@ four_passed a b c d x y z w e =
     let r = two_passed c d z w q.1 in
     (p.0, q.0, r.0, r.1)
 
-not_false : (b : Bool) → not b ≡ false → b ≡ true
+pub not_false : (b : Bool) → not b ≡ false → b ≡ true
 not_false true e = refl
 not_false false e = sym e
 

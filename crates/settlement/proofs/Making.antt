@@ -1,10 +1,9 @@
 -- What the parties' calls leave, as a call of the settlement. Assumes nothing.
-use Rattle.std.proofs.Common.{◌≡◌, ℕ, ◌-◌, ◌+◌, ◌*◌, List, ◌++◌, length, take, drop, replicate, min, Some, None, Option, refl, ap, ap₂, ◌∙◌, sym, arith}
+use Rattle.std.proofs.Common.{◌≡◌, ℕ, ◌-◌, ◌+◌, ◌*◌, List, ◌++◌, length, take, drop, replicate, min, Some, None, Option, ap, ap₂, ◌∙◌, sym, arith}
 use Rattle.std.proofs.lemmas.List.{take_min}
 use Rattle.labels.specs.Kind.{Kind}
 use Rattle.hashes.specs.Count.{counted}
 use Rattle.circuit.specs.Parts.{parts_of}
-use Rattle.circuit.specs.Forms.{makes}
 use Rattle.circuit.specs.Gates.{form_of}
 use Rattle.circuit.specs.Material.{gate_bytes}
 use Rattle.circuit.specs.declared.refusal.Refusal.{Refusal}
@@ -12,7 +11,6 @@ use Rattle.gates.specs.Bytes.{laid}
 use Rattle.tables.specs.Table.{places}
 use Rattle.steps.specs.Gate.{garble_calls, gate_material}
 use Rattle.parties.specs.Refusing.{garble_refusal}
-use Rattle.parties.specs.Side.{stepped}
 use Rattle.garbler.specs.Garbling.{Garbled}
 use Rattle.settlement.specs.State.{State, by_garble}
 use Rattle.settlement.specs.Made.{Made}

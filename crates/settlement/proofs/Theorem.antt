@@ -1,92 +1,127 @@
 -- The theorem on settlements: the tie holds between any two calls, and with it every claim. Assumes nothing.
-use Rattle.std.proofs.Common.{◌≡◌, ℕ, zero, suc, ◌+◌, ◌<◌, ◌≤◌, Bool, true, false, cond, not, ◌&&◌, eqb, ltb, List, [], ◌++◌, length, get_or, take, drop, slice_index, Some, None, Option, refl, sym, ap, ap₂, ◌∙◌, subst, inl, inr, arith}
-use Rattle.std.proofs.lemmas.Bool.{cases_Bool, cases_lt, lt-ltb}
+use Rattle.std.proofs.Common.{◌≡◌, ℕ, zero, suc, ◌<◌, ◌≤◌, Bool, true, false, cond, eqb, ltb, slice_index, sym, ap, ap₂, ◌∙◌, subst, inl, inr, arith}
+use Rattle.std.proofs.lemmas.Bool.{cases_Bool, cases_lt, lt-ltb, le-ltb}
 use Rattle.std.proofs.lemmas.Bool.Decides.{nat_tests}
-use Rattle.std.proofs.lemmas.List.{length-take, get_or-take, get_or_append_left}
-use Rattle.labels.specs.Kind.{Kind, differs, times}
-use Rattle.labels.specs.Longs.{and_left, and_right}
+use Rattle.labels.specs.Kind.{Kind, times}
 use Rattle.labels.specs.Numbers.{digit}
 use Rattle.hashes.specs.Draws.{offset}
 use Rattle.circuit.specs.Parts.{Parts, parts_of}
-use Rattle.circuit.specs.Gates.{output_of, made_before, wires_in}
-use Rattle.circuit.specs.Check.{circuit_refusal}
-use Rattle.circuit.specs.declared.refusal.Refusal.{Refusal}
-use Rattle.gates.proofs.Halves.{colour_of_bit}
+use Rattle.circuit.specs.Gates.{output_of, made_before}
 use Rattle.plain.specs.Plain.{plain_bit}
-use Rattle.steps.specs.Whole.{zero_label, material_before}
+use Rattle.steps.specs.Whole.{zero_label}
 use Rattle.tables.specs.Table.{places}
-use Rattle.tables.specs.Material.{listed}
-use Rattle.tables.proofs.Packing.{length_listed, get_or_listed}
-use Rattle.memory.specs.Copy.{open_copy}
-use Rattle.memory.specs.Outputs.{decoded_at}
-use Rattle.laws.specs.Opened.{opened}
-use Rattle.laws.proofs.Order.{ordered_check, made_zero, made_up, inputs_within}
-use Rattle.laws.proofs.Zeros.{zero_input}
+use Rattle.hashes.specs.Count.{counted}
+use Rattle.garbler.specs.Garbling.{encoded}
+use Rattle.laws.proofs.Order.{made_zero}
 use Rattle.laws.proofs.Bits.{plain_input}
-use Rattle.laws.proofs.Opening.{parts_open}
-use Rattle.parties.specs.declared.side.Side.{Side}
 use Rattle.parties.specs.Marks.{is_marked, all_marked}
-use Rattle.parties.specs.Turns.{gates_left}
-use Rattle.parties.specs.Side.{started}
-use Rattle.settlement.specs.State.{State}
 use Rattle.settlement.specs.Lines.{call_at, line_at, is_accepted}
-use Rattle.settlement.specs.Stands.{stands, refusal}
-use Rattle.settlement.specs.Accepted.{Accepted}
-use Rattle.settlement.specs.Runs.{Settlement, Step, Begun, Ran}
-use Rattle.settlement.specs.Claims.{noted, accepted_at, given, bit_of, garbler_made, evaluator_made}
+use Rattle.settlement.specs.Runs.{Settlement, Step, Ran}
+use Rattle.settlement.specs.Claims.{given, bit_of, garbler_sum, evaluator_sum, garbler_made, evaluator_made, label_of, Alike, SameLine, Claims, LineClaims}
 use Rattle.settlement.specs.declared.call.Call.{Call}
-use Rattle.settlement.specs.declared.call.Call.TheVariants.{Garble, Encode, Deliver, Evaluate, Colours, Decode}
-use Rattle.settlement.specs.declared.line.Answer.{Answer}
+use Rattle.settlement.specs.declared.call.Call.TheVariants.{Encode}
 use Rattle.settlement.specs.declared.line.Answer.TheVariants as Answers
 use Rattle.settlement.proofs.Between.{ruled, Tied}
-use Rattle.settlement.proofs.Keeping.{garble_keeps, encode_keeps, deliver_keeps, evaluate_keeps, colours_keep, decode_keeps, true_false}
+use Rattle.settlement.proofs.Outcomes.{accepted_is}
+use Rattle.settlement.proofs.Kept.{call_keeps}
+use Rattle.settlement.proofs.Counting.{fresh_count, garbler_counts, evaluator_counts}
+use Rattle.settlement.proofs.Values.{is_decoded, encode_value, decode_notes, decode_case}
+use Rattle.settlement.proofs.Beginning.{begun_tied}
 
--- a call leaves all as it was, or is accepted
-pub data Outcome {L : Type 0} (K : Kind L) (F E : L → ℕ → L) (bytes : List ℕ) (s : State L) (call : Call) (a : Answer L) (t : State L) : Type 0 where
-  stays : is_accepted a ≡ false → t ≡ s → Outcome K F E bytes s call a t
-  goes : stands s call ≡ true → refusal s K bytes call ≡ None → Accepted K bytes s a t F E call → Outcome K F E bytes s call a t
+module _ {L : Type 0} (K : Kind L) (r : Settlement L) (n : ℕ) (ran : Ran K r n) (same : r.evaluator_hash ≡ r.garbler_hash) where
+  abbrev c' : Parts
+  c' = parts_of r.circuit
 
-by_refusal : {L : Type 0} (K : Kind L) (F E : L → ℕ → L) (bytes : List ℕ) (s : State L) (call : Call) (a : Answer L) (t : State L) → Step K F E bytes s call a t
-    → stands s call ≡ true → (o : Option Refusal) → refusal s K bytes call ≡ o → Outcome K F E bytes s call a t
-by_refusal K F E bytes s call a t step standing (Some why) e = let r = step.refused why standing e in stays (ap is_accepted r.0) r.1
-by_refusal K F E bytes s call a t step standing None e = goes standing e (step.accepted standing e)
+  abbrev F : L → ℕ → L
+  F = r.garbler_hash
 
-pub outcome : {L : Type 0} (K : Kind L) (F E : L → ℕ → L) (bytes : List ℕ) (s : State L) (call : Call) (a : Answer L) (t : State L) → Step K F E bytes s call a t → Outcome K F E bytes s call a t
-outcome K F E bytes s call a t step =
-    elim (cases_Bool (stands s call)) [
-      | inl e ↦ by_refusal K F E bytes s call a t step e (refusal s K bytes call) refl
-      | inr e ↦ (let r = step.unmade e in stays (ap is_accepted r.0) r.1)
-    ]
+  abbrev seed : L
+  seed = (r.at 0).seed
 
--- a call that is not accepted notes nothing
-pub not_noted : (call : Call) (x : ℕ → Bool) → noted call false x ≡ x
-not_noted (Garble n m) x = refl
-not_noted (Encode i b) x = refl
-not_noted (Deliver i) x = refl
-not_noted (Evaluate n) x = refl
-not_noted (Colours n) x = refl
-not_noted (Decode n) x = refl
+  colours_offset : K.colour (offset F seed K) ≡ true
+  colours_offset = ap K.colour (sym ran.begun.offset_is) ∙ ran.begun.coloured
 
-module _ {L : Type 0} (K : Kind L) (F : L → ℕ → L) (bytes : List ℕ) (seed : L) (passes : circuit_refusal bytes ≡ None) (coloured : K.colour (offset F seed K) ≡ true)
-  (s : State L) (x : ℕ → Bool) (tied : Tied K F bytes seed s x) (a : Answer L) (t : State L) where
-  keeps : (call : Call) → stands s call ≡ true → refusal s K bytes call ≡ None → Accepted K bytes s a t F F call → (is_accepted a ≡ true) × Tied K F bytes seed t (noted call true x)
-  keeps (Garble n m) standing free acc =
-      (ap is_accepted acc.answer, subst (λ (z : State L). Tied K F bytes seed z x) (sym acc.leaves) (garble_keeps K F bytes seed passes s x tied n m free t.zeros _ _ acc.wires))
-  keeps (Encode i b) standing free acc =
-      (ap is_accepted acc.answer, subst (λ (z : State L). Tied K F bytes seed z (noted (Encode i b) true x)) (sym acc.leaves) (encode_keeps K F bytes seed passes s x tied i b free))
-  keeps (Deliver i) standing free acc =
-      (ap is_accepted acc.answer, subst (λ (z : State L). Tied K F bytes seed z x) (sym acc.leaves) (deliver_keeps K F bytes seed passes s x tied i standing free))
-  keeps (Evaluate n) standing free acc =
-      (ap is_accepted acc.answer, subst (λ (z : State L). Tied K F bytes seed z x) (sym acc.leaves) (evaluate_keeps K F bytes seed passes s x tied coloured n free t.labels _ _ acc.wires))
-  keeps (Colours n) standing free acc =
-      (ap is_accepted acc.answer, subst (λ (z : State L). Tied K F bytes seed z x) (sym acc.leaves) (colours_keep K F bytes seed passes s x tied n free))
-  keeps (Decode n) standing free acc =
-      (ap is_accepted acc.answer, subst (λ (z : State L). Tied K F bytes seed z x) (sym acc.leaves) (decode_keeps K F bytes seed passes s x tied _))
+  step_at : (k : ℕ) → k < n → Step K F F r.circuit (r.at k) (call_at r.calls k) (line_at r.lines k).answer (r.at (suc k))
+  step_at k l = subst (λ (E : L → ℕ → L). Step K F E r.circuit (r.at k) (call_at r.calls k) (line_at r.lines k).answer (r.at (suc k))) same (ran.step k l)
 
-  pub call_keeps : (call : Call) → Step K F F bytes s call a t → Tied K F bytes seed t (noted call (is_accepted a) x)
-  call_keeps call step =
-      elim (outcome K F F bytes s call a t step) [
-        | stays no e ↦ (subst (λ (z : State L). Tied K F bytes seed z (noted call (is_accepted a) x)) (sym e)
-            (subst (λ (y : ℕ → Bool). Tied K F bytes seed s y) (sym (ap (λ (q : Bool). noted call q x) no ∙ not_noted call x)) tied))
-        | goes standing free acc ↦ (let k = keeps call standing free acc in subst (λ (q : Bool). Tied K F bytes seed t (noted call q x)) (sym k.0) k.1)
+  pub tied_at : (k : ℕ) → k ≤ n → Tied K F r.circuit seed (r.at k) (given r k)
+  tied_at zero l = begun_tied K r ran.begun
+  tied_at (suc k) l = call_keeps K F r.circuit seed ran.begun.passes colours_offset (r.at k) (given r k) (tied_at k (omega arith)) (line_at r.lines k).answer (r.at (suc k)) (call_at r.calls k) (step_at k (omega arith))
+
+  -- (the evaluator's label, on any wire that it has made)
+  evaluator_label : (k : ℕ) → k ≤ n → (w : ℕ) → evaluator_made (r.at k) w ≡ true → places K (r.at k).labels w ≡ ruled K F r.circuit seed w (bit_of r k w)
+  evaluator_label k l w made =
+      let tied = tied_at k l in
+      let s = r.at k in
+      let sizes = ap (λ z. z.inputs) tied.evaluator_sizes in
+      elim (cases_lt w s.evaluator.sizes.inputs) [
+        | inl h ↦ (
+            let first : ltb w s.evaluator.sizes.inputs ≡ true = lt-ltb w s.evaluator.sizes.inputs h in
+            let mark : is_marked s.evaluator.marks w ≡ true = ap (λ (q : Bool). cond q (is_marked s.evaluator.marks w) (ltb w s.evaluator.made)) (sym first) ∙ made in
+            tied.delivered w (omega arith) mark ∙ ap (ruled K F r.circuit seed w) (sym (plain_input c' (given r k) w (omega arith))))
+        | inr h ↦ (
+            let later : ltb w s.evaluator.sizes.inputs ≡ false = le-ltb w s.evaluator.sizes.inputs h in
+            let there : ltb w s.evaluator.made ≡ true = ap (λ (q : Bool). cond q (is_marked s.evaluator.marks w) (ltb w s.evaluator.made)) (sym later) ∙ made in
+            let below : w < s.evaluator.made = grind (arith, nat_tests) in
+            elim (cases_Bool (all_marked s.evaluator.marks c'.sizes.inputs)) [
+              | inl all ↦ tied.evaluated all w below
+              | inr wait ↦ (
+                  let first : s.evaluator.made ≡ c'.sizes.inputs = tied.evaluator_made ∙ ap (made_before c') (tied.waits wait) ∙ made_zero c' in
+                  absurd (omega arith))
+            ])
       ]
+
+  pub labels_claim : (k : ℕ) → k ≤ n → (w : ℕ) → garbler_made (r.at k) w ≡ true → evaluator_made (r.at k) w ≡ true
+      → places K (r.at k).labels w ≡ K.xor (places K (r.at k).zeros w) (times K (bit_of r k w) (r.at k).offset)
+  labels_claim k l w gm em =
+      let tied = tied_at k l in
+      let below : w < (r.at k).garbler.made = grind (arith, nat_tests) in
+      evaluator_label k l w em ∙ ap₂ (λ z d. K.xor z (times K (bit_of r k w) d)) (sym (tied.zeros w below)) (sym tied.offset_is)
+
+
+  pub garbler_count_claim : (k : ℕ) → k ≤ n → (r.at k).garbler_count ≡ counted r.garbler_came (garbler_sum r k)
+  garbler_count_claim zero l = ran.begun.garbler_count
+  garbler_count_claim (suc k) l = garbler_counts K F F r.circuit ran.begun.passes (r.at k) (line_at r.lines k).answer (r.at (suc k)) r.garbler_came (garbler_sum r k) (call_at r.calls k) (step_at k (omega arith)) (garbler_count_claim k (omega arith))
+
+  pub evaluator_count_claim : (k : ℕ) → k ≤ n → (r.at k).evaluator_count ≡ counted r.evaluator_came (evaluator_sum r k)
+  evaluator_count_claim zero l = let fits = ran.begun.evaluator_fits in ran.begun.evaluator_count ∙ fresh_count r.evaluator_came fits
+  evaluator_count_claim (suc k) l = evaluator_counts K F F r.circuit ran.begun.passes (r.at k) (line_at r.lines k).answer (r.at (suc k)) r.evaluator_came (evaluator_sum r k) (call_at r.calls k) (step_at k (omega arith)) (evaluator_count_claim k (omega arith))
+
+  pub claims : (k : ℕ) → k ≤ n → Claims K r k
+  claims k l =
+      let tied = tied_at k l in
+      record {
+        labels = λ w _ gm em. labels_claim k l w gm em;
+        zeros = λ w gm. tied.zeros w (let z = gm in grind (arith, nat_tests));
+        material = tied.written;
+        garbler_count = garbler_count_claim k l;
+        evaluator_count = evaluator_count_claim k l;
+      }
+
+  -- line k
+  encodes_claim : (k : ℕ) → k < n → (i b : ℕ) (label : L) → call_at r.calls k ≡ Encode i b → (line_at r.lines k).answer ≡ Answers.Encoded label → label ≡ label_of K r i (eqb b 1)
+  encodes_claim k l i b label ec ea =
+      let a = (line_at r.lines k).answer in
+      let step = subst (λ (q : Call). Step K F F r.circuit (r.at k) q a (r.at (suc k))) ec (step_at k l) in
+      let acc = accepted_is K F F r.circuit (r.at k) (Encode i b) a (r.at (suc k)) step (ap is_accepted ea) in
+      let value = acc.2.answer in
+      let same_label : Answers.Encoded label ≡ Answers.Encoded (encoded K (r.at k).offset (r.at k).zeros i b) = sym ea ∙ value in
+      let is : label ≡ encoded K (r.at k).offset (r.at k).zeros i b = cc in
+      is ∙ encode_value K F r.circuit seed ran.begun.passes colours_offset (r.at k) (given r k) (tied_at k (omega arith)) i b acc.1
+      ∙ ap (λ (d : L). K.xor (zero_label K F seed c' i) (times K (eqb b 1) d)) (sym ran.begun.offset_is)
+
+  decodes_claim : (k : ℕ) → k < n → (line_at r.lines k).answer ≡ Answers.Decoded → (o : ℕ) → o < c'.sizes.outputs
+      → slice_index (r.at (suc k)).outputs o ≡ digit (bit_of r (suc k) (output_of c' o))
+  decodes_claim k l ea o lo =
+      let a = (line_at r.lines k).answer in
+      let acc = accepted_is K F F r.circuit (r.at k) (call_at r.calls k) a (r.at (suc k)) (step_at k l) (ap is_accepted ea) in
+      decode_case K F r.circuit seed ran.begun.passes colours_offset (r.at k) (given r k) (tied_at k (omega arith)) (call_at r.calls k) a (r.at (suc k)) F acc.2 acc.0 acc.1 (ap is_decoded ea) o lo
+      ∙ ap (λ (x : ℕ → Bool). digit (plain_bit c' x (output_of c' o))) (sym (decode_notes K F r.circuit seed ran.begun.passes colours_offset (r.at k) (given r k) (tied_at k (omega arith)) (call_at r.calls k) a F (r.at k) (r.at (suc k)) acc.2 (ap is_decoded ea) (given r k)))
+
+  pub line_claims : (k : ℕ) → k < n → ((o : Settlement L) → Ran K o (suc k) → o.evaluator_hash ≡ o.garbler_hash → Alike r o → SameLine r o k) → LineClaims K r k
+  line_claims k l alike = record {
+    encodes = λ i b label ec ea. encodes_claim k l i b label ec ea;
+    colours = λ m e o lo. ((tied_at (suc k) (omega arith)).shown m e).1 o lo;
+    decodes = λ ea o lo. decodes_claim k l ea o lo;
+    alike = alike;
+  }

@@ -1,9 +1,9 @@
 -- What an accepted call answers and leaves. Assumes nothing.
-use Rattle.std.specs.Prelude.{◌≡◌, ℕ, ◌*◌, cond, List, ◌++◌, length, take, drop, replicate, Some, nat_lt, slice_set}
+use Rattle.std.specs.Prelude.{◌≡◌, ℕ, ◌*◌, List, ◌++◌, length, take, drop, replicate, Some, slice_set}
 use Rattle.labels.specs.Kind.{Kind}
 use Rattle.hashes.specs.Count.{counted}
 use Rattle.wires.specs.Wires.{Grown}
-use Rattle.circuit.specs.Parts.{Parts, parts_of}
+use Rattle.circuit.specs.Parts.{parts_of}
 use Rattle.circuit.specs.Forms.{makes}
 use Rattle.circuit.specs.Gates.{form_of}
 use Rattle.circuit.specs.Material.{gate_bits, gate_bytes}

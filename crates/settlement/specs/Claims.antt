@@ -1,5 +1,5 @@
 -- What is claimed of a settlement after each of its calls. Assumes nothing.
-use Rattle.std.specs.Prelude.{◌≡◌, ℕ, zero, suc, ◌+◌, ◌<◌, ◌≤◌, ◌&&◌, Bool, true, false, cond, nat_lt, List, length, take, Some, None, Option, ◌==◌, slice_index}
+use Rattle.std.specs.Prelude.{◌≡◌, ℕ, zero, suc, ◌+◌, ◌<◌, ◌&&◌, Bool, true, false, cond, nat_lt, length, take, Some, ◌==◌, slice_index}
 use Rattle.labels.specs.Kind.{Kind, times}
 use Rattle.labels.specs.Numbers.{digit}
 use Rattle.hashes.specs.Count.{counted}
@@ -15,7 +15,6 @@ use Rattle.settlement.specs.Lines.{call_at, line_at, is_accepted, bare}
 use Rattle.settlement.specs.Runs.{Settlement, Ran}
 use Rattle.settlement.specs.declared.call.Call.{Call}
 use Rattle.settlement.specs.declared.call.Call.TheVariants.{Garble, Encode, Deliver, Evaluate, Colours, Decode}
-use Rattle.settlement.specs.declared.line.Answer.{Answer}
 use Rattle.settlement.specs.declared.line.Answer.TheVariants.{Encoded, Decoded}
 
 -- an accepted encode gives its input its bit

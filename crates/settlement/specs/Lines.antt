@@ -1,7 +1,7 @@
 -- Calls and lines by their number, and what a line tells. Assumes nothing.
 use Rattle.std.specs.Prelude.{ℕ, Bool, true, false, List, slice_index_or}
 use Rattle.settlement.specs.declared.call.Call.{Call}
-use Rattle.settlement.specs.declared.call.Call.TheVariants.{Garble, Encode, Deliver, Evaluate, Colours, Decode}
+use Rattle.settlement.specs.declared.call.Call.TheVariants.{Garble}
 use Rattle.settlement.specs.declared.line.Answer.{Answer}
 use Rattle.settlement.specs.declared.line.Answer.TheVariants.{NotMade, Refused, Garbled, Encoded, Delivered, Evaluated, Coloured, Decoded}
 use Rattle.settlement.specs.declared.line.Line.{Line}

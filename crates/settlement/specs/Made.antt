@@ -1,5 +1,5 @@
 -- A call that is made, as the code has it. Assumes nothing.
-use Rattle.std.specs.Prelude.{◌≡◌, ℕ, List, Some, None, Option}
+use Rattle.std.specs.Prelude.{◌≡◌, ℕ, List, Some, None}
 use Rattle.labels.specs.Kind.{Kind}
 use Rattle.circuit.specs.declared.refusal.Refusal.{Refusal}
 use Rattle.settlement.specs.State.{State}

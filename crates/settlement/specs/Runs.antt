@@ -1,9 +1,9 @@
 -- A run of a settlement: what becomes of each call. Assumes nothing.
-use Rattle.std.specs.Prelude.{◌≡◌, ℕ, zero, suc, ◌+◌, ◌^◌, ◌<◌, ◌≤◌, ◌&&◌, Bool, true, false, cond, List, length, Some, None, Option, ◌==◌}
+use Rattle.std.specs.Prelude.{◌≡◌, ℕ, suc, ◌+◌, ◌^◌, ◌<◌, ◌≤◌, true, false, List, length, Some, None}
 use Rattle.labels.specs.Kind.{Kind}
 use Rattle.hashes.specs.Count.{counted}
 use Rattle.hashes.specs.Draws.{offset, input_zero}
-use Rattle.circuit.specs.Parts.{Parts, parts_of}
+use Rattle.circuit.specs.Parts.{parts_of}
 use Rattle.circuit.specs.Gates.{wires_in}
 use Rattle.circuit.specs.Check.{circuit_refusal}
 use Rattle.circuit.specs.declared.refusal.Refusal.{Refusal}
@@ -11,7 +11,7 @@ use Rattle.memory.specs.Copy.{open_copy}
 use Rattle.parties.specs.Side.{started}
 use Rattle.tables.specs.Table.{places}
 use Rattle.settlement.specs.State.{State}
-use Rattle.settlement.specs.Lines.{call_at, line_at, is_accepted}
+use Rattle.settlement.specs.Lines.{call_at, line_at}
 use Rattle.settlement.specs.Stands.{stands, refusal}
 use Rattle.settlement.specs.Accepted.{Accepted}
 use Rattle.settlement.specs.declared.call.Call.{Call}
@@ -52,6 +52,7 @@ module _ {L : Type 0} (K : Kind L) (r : Settlement L) where
     pub none_shown : (r.at 0).shown ≡ None
     pub garbler_count : (r.at 0).garbler_count ≡ counted r.garbler_came (1 + (parts_of r.circuit).sizes.inputs)
     pub evaluator_count : (r.at 0).evaluator_count ≡ r.evaluator_came
+    pub evaluator_fits : r.evaluator_came < 2 ^ 64
 
   -- n calls made, a line for each: the answer and both counts after it
   pub record Ran (n : ℕ) : Type 0 where

@@ -1,5 +1,5 @@
 -- The promise of a settlement. Assumes nothing.
-use Rattle.std.specs.Prelude.{◌≡◌, ℕ, suc, ◌<◌, ◌≤◌, ◌||◌, List, [], ◌∷◌, length, Some, None, Option, nat_lt}
+use Rattle.std.specs.Prelude.{◌≡◌, ℕ, ◌<◌, ◌≤◌, ◌||◌, List, [], ◌∷◌, length, Option, nat_lt}
 use Rattle.labels.specs.Kind.{Kind}
 use Rattle.circuit.specs.Parts.{parts_of}
 use Rattle.circuit.specs.Refusals.{first_of, or_else}

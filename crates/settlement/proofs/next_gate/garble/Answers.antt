@@ -1,4 +1,4 @@
-use Rattle.std.proofs.Common.{rules, ◌≡◌, ℕ, refl}
+use Rattle.std.proofs.Common.{refl}
 use Rattle.settlement.specs.State.{state_of}
 use Rattle.settlement.proofs.Lending.{part_same}
 use Rattle.settlement.proofs.Making.{garble_accepted, garble_refused}

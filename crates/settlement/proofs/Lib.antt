@@ -13,3 +13,8 @@ mod Counting
 mod Values
 mod Beginning
 mod Theorem
+mod AlikeLengths
+mod AlikeBits
+mod AlikeRefusals
+mod AlikeCalls
+mod Alike

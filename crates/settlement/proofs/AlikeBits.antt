@@ -14,7 +14,7 @@ use Rattle.settlement.specs.Stands.{colours_by}
 use Rattle.settlement.specs.Accepted.{Accepted}
 use Rattle.settlement.specs.Runs.{Step}
 use Rattle.settlement.specs.declared.call.Call.{Call}
-use Rattle.settlement.specs.declared.call.Call.TheVariants.{Garble, Encode, Deliver, Evaluate, Colours, Decode}
+use Rattle.settlement.specs.declared.call.Call.TheVariants.{Garble, Encode, Deliver, Evaluate, Colours, Decode, Certify}
 use Rattle.settlement.specs.declared.line.Answer.{Answer}
 use Rattle.settlement.proofs.Outcomes.{stays, goes, outcome}
 
@@ -51,6 +51,7 @@ module _ {L : Type 0} (K : Kind L) (F E : L → ℕ → L) (bytes : List ℕ) (s
       subst (λ (z : State L). AreBits z) (sym acc.leaves)
       (bits_shown (λ o. K.colour (places K s.zeros (word_at (parts_of bytes).outputs o))) (length (take n s.colours)) (drop n s.colours))
   accepted_bits (Decode n) acc = subst (λ (z : State L). AreBits z) (sym acc.leaves) bits
+  accepted_bits (Certify o) acc = subst (λ (z : State L). AreBits z) (sym acc.leaves) bits
 
   pub step_bits : (call : Call) → Step K F E bytes s call a t → AreBits t
   step_bits call step =

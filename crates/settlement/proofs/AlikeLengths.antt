@@ -16,7 +16,7 @@ use Rattle.settlement.specs.Accepted.{Accepted}
 use Rattle.settlement.specs.Runs.{Step}
 use Rattle.settlement.specs.Claims.{SameLengths}
 use Rattle.settlement.specs.declared.call.Call.{Call}
-use Rattle.settlement.specs.declared.call.Call.TheVariants.{Garble, Encode, Deliver, Evaluate, Colours, Decode}
+use Rattle.settlement.specs.declared.call.Call.TheVariants.{Garble, Encode, Deliver, Evaluate, Colours, Decode, Certify}
 use Rattle.settlement.specs.declared.line.Answer.{Answer}
 use Rattle.settlement.proofs.Facts.{step_free}
 use Rattle.settlement.proofs.Outcomes.{stays, goes, outcome}
@@ -124,6 +124,7 @@ module _ {L : Type 0} (K : Kind L) (F E : L → ℕ → L) (bytes : List ℕ) (s
     outputs = ap (λ (z : State L). length z.outputs) acc.leaves
         ∙ part_long n s.outputs _ (length_listed _ (length (take n s.outputs)));
   }
+  accepted_lengths (Certify o) free acc = same_lengths s t acc.leaves
 
   pub step_lengths : (call : Call) → Step K F E bytes s call a t → SameLengths s t
   step_lengths call step =

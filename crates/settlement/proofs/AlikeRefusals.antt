@@ -13,7 +13,7 @@ use Rattle.laws.proofs.Opening.{parts_open, passes_open}
 use Rattle.parties.specs.declared.side.Side.{Side}
 use Rattle.parties.specs.Marks.{is_marked}
 use Rattle.parties.specs.Turns.{is_its}
-use Rattle.parties.specs.Refusing.{turn_refusal, step_refusal, input_refusal, outputs_refusal}
+use Rattle.parties.specs.Refusing.{turn_refusal, step_refusal, input_refusal, output_refusal, outputs_refusal}
 use Rattle.settlement.specs.Claims.{SameButRows}
 
 abbrev with_rows : Parts → List ℕ → Parts
@@ -95,6 +95,13 @@ module _ (r o : List ℕ) (same : SameTurns r o) (s : Side) where
       ∷ (leb s.sizes.inputs input, Number)
       ∷ (e i, Bit)
       ∷ (is_marked s.marks input, Again)
+      ∷ [])))
+
+  pub output_same : (turn : Bool) (wires output : ℕ) → output_refusal s o turn wires output ≡ output_refusal s r turn wires output
+  output_same turn wires output =
+      (λ i. or_else (turn_same turn i)
+      (first_of ((ltb wires (same.wires i), Memory)
+      ∷ (leb s.sizes.outputs output, Number)
       ∷ [])))
 
   pub outputs_same : (turn : Bool) (wires colours : ℕ) → outputs_refusal s o turn wires colours ≡ outputs_refusal s r turn wires colours

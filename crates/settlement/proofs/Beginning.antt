@@ -60,6 +60,7 @@ module _ {L : Type 0} (K : Kind L) (r : Settlement L) (b : Begun K r) where
         waits = λ _. next_e;
         evaluated = λ all w l. no_mark s.evaluator _ _ b.evaluator w (each_marked s.evaluator.marks c.sizes.inputs all w (omega arith));
         shown = λ n e. absurd (let q = sym b.none_shown ∙ e in let z : ◌≡◌ {A = ℕ} 0 1 = cc in omega arith);
+        finished = λ e. true_false s.decoded e b.none_decoded;
         sent_room = b.sent_room;
         marks_long = ap (λ z. length z.marks) b.garbler ∙ length-replicate 256 false;
         labels_marks_long = ap (λ z. length z.marks) b.evaluator ∙ length-replicate 256 false;

@@ -38,6 +38,7 @@ module _ {L : Type 0} (K : Kind L) (F : L → ℕ → L) (bytes : List ℕ) (see
     pub evaluated : all_marked s.evaluator.marks (parts_of bytes).sizes.inputs ≡ true → (w : ℕ) → w < s.evaluator.made → places K s.labels w ≡ ruled w (plain_bit (parts_of bytes) x w)
     pub shown : (n : ℕ) → s.shown ≡ Some n → (n ≡ (parts_of bytes).sizes.outputs)
         × ((o : ℕ) → o < (parts_of bytes).sizes.outputs → slice_index s.colours o ≡ digit (K.colour (zero_label K F seed (parts_of bytes) (output_of (parts_of bytes) o))))
+    pub finished : s.decoded ≡ true → (all_marked s.evaluator.marks (parts_of bytes).sizes.inputs ≡ true) × ((parts_of bytes).sizes.gates ≤ s.evaluator.next)
     pub sent_room : 256 ≤ length s.sent
     pub marks_long : length s.garbler.marks ≡ 256
     pub labels_marks_long : length s.evaluator.marks ≡ 256

@@ -13,7 +13,7 @@ use Rattle.settlement.specs.Accepted.{Accepted}
 use Rattle.settlement.specs.Runs.{Step}
 use Rattle.settlement.specs.Claims.{garbler_cost, evaluator_cost}
 use Rattle.settlement.specs.declared.call.Call.{Call}
-use Rattle.settlement.specs.declared.call.Call.TheVariants.{Garble, Encode, Deliver, Evaluate, Colours, Decode}
+use Rattle.settlement.specs.declared.call.Call.TheVariants.{Garble, Encode, Deliver, Evaluate, Colours, Decode, Certify}
 use Rattle.settlement.specs.declared.line.Answer.{Answer}
 use Rattle.settlement.proofs.Outcomes.{stays, goes, outcome}
 
@@ -42,6 +42,7 @@ module _ {L : Type 0} (K : Kind L) (F E : L → ℕ → L) (bytes : List ℕ) (p
   garbler_spends (Evaluate n) e acc = none_spent t.garbler_count (ap (λ (z : State L). z.garbler_count) acc.leaves ∙ e) (is_accepted a)
   garbler_spends (Colours n) e acc = none_spent t.garbler_count (ap (λ (z : State L). z.garbler_count) acc.leaves ∙ e) (is_accepted a)
   garbler_spends (Decode n) e acc = none_spent t.garbler_count (ap (λ (z : State L). z.garbler_count) acc.leaves ∙ e) (is_accepted a)
+  garbler_spends (Certify o) e acc = none_spent t.garbler_count (ap (λ (z : State L). z.garbler_count) acc.leaves ∙ e) (is_accepted a)
 
   evaluator_spends : (call : Call) → s.evaluator_count ≡ counted came sum → Accepted K bytes s a t F E call
       → t.evaluator_count ≡ counted came (sum + cond (is_accepted a) (evaluator_cost (parts_of bytes) call s.evaluator.next) 0)
@@ -57,6 +58,7 @@ module _ {L : Type 0} (K : Kind L) (F E : L → ℕ → L) (bytes : List ℕ) (p
       ∙ ap (λ (q : Bool). counted came (sum + cond q (evaluate_calls (parts_of bytes) s.evaluator.next) 0)) (sym (ap is_accepted acc.answer))
   evaluator_spends (Colours n) e acc = none_spent t.evaluator_count (ap (λ (z : State L). z.evaluator_count) acc.leaves ∙ e) (is_accepted a)
   evaluator_spends (Decode n) e acc = none_spent t.evaluator_count (ap (λ (z : State L). z.evaluator_count) acc.leaves ∙ e) (is_accepted a)
+  evaluator_spends (Certify o) e acc = none_spent t.evaluator_count (ap (λ (z : State L). z.evaluator_count) acc.leaves ∙ e) (is_accepted a)
 
   pub garbler_counts : (call : Call) → Step K F E bytes s call a t → s.garbler_count ≡ counted came sum
       → t.garbler_count ≡ counted came (sum + cond (is_accepted a) (garbler_cost (parts_of bytes) call s.garbler.next) 0)

@@ -16,7 +16,7 @@ use Rattle.circuit.proofs.Checks.{or_else_none}
 use Rattle.parties.specs.declared.side.Side.{Side}
 use Rattle.parties.specs.Marks.{is_marked}
 use Rattle.parties.specs.Turns.{same_sizes, is_its, Its}
-use Rattle.parties.specs.Refusing.{turn_refusal, step_refusal, input_refusal, outputs_refusal}
+use Rattle.parties.specs.Refusing.{turn_refusal, step_refusal, input_refusal, output_refusal, outputs_refusal}
 
 false_true : {X : Type 0} → false ≡ true → X
 false_true e = absurd (let z : ◌≡◌ {A = ℕ} 0 1 = cc in omega arith)
@@ -113,6 +113,24 @@ module _ (s : Side) (bytes : List ℕ) where
         room = let z = m.0 in grind (arith, nat_tests);
         there = let z = m.1 in grind (arith, nat_tests);
         new = m.3;
+      }
+
+  pub record OutputFree (turn : Bool) (wires output : ℕ) : Type 0 where
+    pub its_turn : turn ≡ true
+    pub own : Its s (parts_of bytes) (wires_in (parts_of bytes))
+    pub room : wires_in (parts_of bytes) ≤ wires
+    pub there : output < s.sizes.outputs
+
+  pub output_free : (turn : Bool) (wires output : ℕ) → output_refusal s bytes turn wires output ≡ None → OutputFree turn wires output
+  output_free turn wires output e =
+      let o = or_else_none (turn_refusal s bytes turn) _ e in
+      let t = turn_free turn o.0 in
+      let m = two_passed (ltb wires (wires_in (parts_of bytes))) (leb s.sizes.outputs output) Memory Number o.1 in
+      record {
+        its_turn = t.0;
+        own = t.1;
+        room = let z = m.0 in grind (arith, nat_tests);
+        there = let z = m.1 in grind (arith, nat_tests);
       }
 
   pub record OutputsFree (turn : Bool) (wires colours : ℕ) : Type 0 where

@@ -125,6 +125,7 @@ module _ {L : Type 0} (K : Kind L) (F : L → ℕ → L) (bytes : List ℕ) (see
         waits = tied.waits;
         evaluated = tied.evaluated;
         shown = tied.shown;
+        finished = tied.finished;
         sent_room = tied.sent_room;
         marks_long = tied.marks_long;
         labels_marks_long = tied.labels_marks_long;
@@ -192,6 +193,7 @@ module _ {L : Type 0} (K : Kind L) (F : L → ℕ → L) (bytes : List ℕ) (see
               ∙ ap (λ (k : ℕ). ruled K F bytes seed k (plain_bit c x k)) here)
         ];
         shown = tied.shown;
+        finished = λ e. (let over = (tied.finished e).1 in absurd (omega arith));
         sent_room = tied.sent_room;
         marks_long = tied.marks_long;
         labels_marks_long = tied.labels_marks_long;

@@ -88,6 +88,7 @@ module _ {L : Type 0} (K : Kind L) (F : L → ℕ → L) (bytes : List ℕ) (see
         waits = tied.waits;
         evaluated = λ all w l. absurd (not_here i there (each_marked s.evaluator.marks c.sizes.inputs all i there) refl);
         shown = tied.shown;
+        finished = tied.finished;
         sent_room = let e = length-set s.sent i (encoded K s.offset s.zeros i b) in omega arith;
         marks_long = length-set s.garbler.marks i true ∙ tied.marks_long;
         labels_marks_long = tied.labels_marks_long;
@@ -144,6 +145,7 @@ module _ {L : Type 0} (K : Kind L) (F : L → ℕ → L) (bytes : List ℕ) (see
             let in_inputs : w < c.sizes.inputs = omega arith in
             now w in_inputs (each_marked (set s.evaluator.marks i true) c.sizes.inputs all w in_inputs) ∙ ap (ruled K F bytes seed w) (sym (plain_input c x w in_inputs)));
         shown = tied.shown;
+        finished = λ e. true_false (is_marked s.evaluator.marks i) (each_marked s.evaluator.marks c.sizes.inputs (tied.finished e).0 i there) f.new;
         sent_room = tied.sent_room;
         marks_long = tied.marks_long;
         labels_marks_long = length-set s.evaluator.marks i true ∙ tied.labels_marks_long;

@@ -10,7 +10,7 @@ use Rattle.settlement.specs.Accepted.{Accepted}
 use Rattle.settlement.specs.Runs.{Step}
 use Rattle.settlement.specs.Claims.{noted}
 use Rattle.settlement.specs.declared.call.Call.{Call}
-use Rattle.settlement.specs.declared.call.Call.TheVariants.{Garble, Encode, Deliver, Evaluate, Colours, Decode}
+use Rattle.settlement.specs.declared.call.Call.TheVariants.{Garble, Encode, Deliver, Evaluate, Colours, Decode, Certify}
 use Rattle.settlement.specs.declared.line.Answer.{Answer}
 use Rattle.settlement.proofs.Between.{Tied}
 use Rattle.settlement.proofs.GatesKeep.{garble_keeps, evaluate_keeps}
@@ -32,7 +32,9 @@ module _ {L : Type 0} (K : Kind L) (F : L → ℕ → L) (bytes : List ℕ) (see
   keeps (Colours n) standing free acc =
       (ap is_accepted acc.answer, subst (λ (z : State L). Tied K F bytes seed z x) (sym acc.leaves) (colours_keep K F bytes seed passes s x tied n free))
   keeps (Decode n) standing free acc =
-      (ap is_accepted acc.answer, subst (λ (z : State L). Tied K F bytes seed z x) (sym acc.leaves) (decode_keeps K F bytes seed passes s x tied _))
+      (ap is_accepted acc.answer, subst (λ (z : State L). Tied K F bytes seed z x) (sym acc.leaves) (decode_keeps K F bytes seed passes s x tied n free _))
+  keeps (Certify o) standing free acc =
+      (ap is_accepted acc.answer, subst (λ (z : State L). Tied K F bytes seed z x) (sym acc.leaves) tied)
 
   pub call_keeps : (call : Call) → Step K F F bytes s call a t → Tied K F bytes seed t (noted call (is_accepted a) x)
   call_keeps call step =

@@ -11,6 +11,7 @@ mod Outcomes
 mod Kept
 mod Counting
 mod Values
+mod Certifying
 mod Beginning
 mod Theorem
 mod AlikeLengths

@@ -10,7 +10,7 @@ use Rattle.settlement.specs.Accepted.{Accepted}
 use Rattle.settlement.specs.Runs.{Step}
 use Rattle.settlement.specs.Claims.{noted}
 use Rattle.settlement.specs.declared.call.Call.{Call}
-use Rattle.settlement.specs.declared.call.Call.TheVariants.{Garble, Encode, Deliver, Evaluate, Colours, Decode}
+use Rattle.settlement.specs.declared.call.Call.TheVariants.{Garble, Encode, Deliver, Evaluate, Colours, Decode, Certify}
 use Rattle.settlement.specs.declared.line.Answer.{Answer}
 use Rattle.settlement.proofs.Turning.{true_false}
 
@@ -38,6 +38,7 @@ not_noted (Deliver i) x = refl
 not_noted (Evaluate n) x = refl
 not_noted (Colours n) x = refl
 not_noted (Decode n) x = refl
+not_noted (Certify o) x = refl
 
 -- an accepted call, by its line
 pub accepted_is : {L : Type 0} (K : Kind L) (F E : L → ℕ → L) (bytes : List ℕ) (s : State L) (call : Call) (a : Answer L) (t : State L) → Step K F E bytes s call a t → is_accepted a ≡ true

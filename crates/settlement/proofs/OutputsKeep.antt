@@ -1,5 +1,5 @@
 -- Colours and decode keep the tie. Assumes nothing.
-use Rattle.std.proofs.Common.{◌≡◌, ℕ, suc, ◌+◌, ◌<◌, ◌≤◌, Bool, false, not, ◌&&◌, List, ◌++◌, length, take, drop, Some, None, sym, ap, ◌∙◌, arith}
+use Rattle.std.proofs.Common.{◌≡◌, ℕ, suc, ◌+◌, ◌<◌, ◌≤◌, Bool, true, false, not, ◌&&◌, List, ◌++◌, length, take, drop, Some, None, sym, ap, ◌∙◌, arith}
 use Rattle.std.proofs.lemmas.Bool.Decides.{nat_tests}
 use Rattle.std.proofs.lemmas.List.{get_or_append_left}
 use Rattle.labels.specs.Kind.{Kind}
@@ -13,17 +13,23 @@ use Rattle.steps.specs.Whole.{zero_label}
 use Rattle.tables.specs.Table.{places}
 use Rattle.tables.specs.Material.{listed}
 use Rattle.tables.proofs.Packing.{length_listed, get_or_listed}
+use Rattle.circuit.proofs.Checks.{or_else_none}
+use Rattle.memory.specs.Copy.{open_copy}
+use Rattle.parties.specs.Marks.{all_marked}
+use Rattle.parties.specs.States.{allowed, state_of}
+use Rattle.parties.specs.Refusing.{outputs_refusal}
+use Rattle.parties.specs.declared.state.Call.TheVariants.{Decode as DecodeCall}
 use Rattle.memory.specs.Outputs.{colour_at, colours_of}
 use Rattle.laws.specs.Ordered.{Ordered}
 use Rattle.laws.proofs.Order.{ordered_check, made_up}
 use Rattle.parties.specs.Turns.{gates_left}
 use Rattle.settlement.specs.State.{State, by_colours, by_decode}
-use Rattle.settlement.specs.Stands.{refusal}
-use Rattle.settlement.specs.declared.call.Call.TheVariants.{Colours}
+use Rattle.settlement.specs.Stands.{colours_by, refusal}
+use Rattle.settlement.specs.declared.call.Call.TheVariants.{Colours, Decode}
 use Rattle.settlement.proofs.Circuits.{outputs_made}
 use Rattle.settlement.proofs.Facts.{outputs_free}
 use Rattle.settlement.proofs.Between.{Tied}
-use Rattle.settlement.proofs.Turning.{not_true}
+use Rattle.settlement.proofs.Turning.{not_true, may_decode}
 
 some_same : (a b : ℕ) → Some a ≡ Some b → a ≡ b
 some_same a b e = cc
@@ -84,13 +90,25 @@ module _ {L : Type 0} (K : Kind L) (F : L → ℕ → L) (bytes : List ℕ) (see
             (let q : m ≡ k = some_same m k e in sym q ∙ as_many),
             (λ o l. get_or_append_left (listed m f_at) (drop n s.colours) 0 o (omega arith) ∙ get_or_listed f_at m o 0 (omega arith)
                 ∙ ap (λ (z : L). digit (K.colour z)) (all_zeros none (output_of c o) (outputs_made bytes passes o l))));
+        finished = tied.finished;
         sent_room = tied.sent_room;
         marks_long = tied.marks_long;
         labels_marks_long = tied.labels_marks_long;
       }
 
-  pub decode_keeps : (outputs : List ℕ) → Tied K F bytes seed (by_decode s outputs) x
-  decode_keeps outputs = record {
+  -- the evaluator has finished where it may decode
+  pub may_decode_finished : (n : ℕ) → refusal s K bytes (Decode n) ≡ None → (all_marked s.evaluator.marks (parts_of bytes).sizes.inputs ≡ true) × ((parts_of bytes).sizes.gates ≤ s.evaluator.next)
+  may_decode_finished n free =
+      let both = or_else_none (outputs_refusal s.evaluator (open_copy bytes) (allowed (state_of s.evaluator) DecodeCall) (length s.labels) (length (colours_by s.shown s.colours))) _ free in
+      let f = outputs_free s.evaluator (open_copy bytes) (allowed (state_of s.evaluator) DecodeCall) (length s.labels) (length (colours_by s.shown s.colours)) both.0 in
+      let turn = may_decode s.evaluator.ended (all_marked s.evaluator.marks s.evaluator.sizes.inputs) (gates_left s.evaluator) f.its_turn in
+      let gates = ap (λ z. z.gates) tied.evaluator_sizes in
+      let none = turn.1 in
+      let done : s.evaluator.sizes.gates ≤ s.evaluator.next = grind (arith, nat_tests) in
+      (ap (λ z. all_marked s.evaluator.marks z.inputs) (sym tied.evaluator_sizes) ∙ turn.0, omega arith)
+
+  pub decode_keeps : (n : ℕ) → refusal s K bytes (Decode n) ≡ None → (outputs : List ℕ) → Tied K F bytes seed (by_decode s outputs) x
+  decode_keeps n free outputs = record {
     seed_is = tied.seed_is;
     offset_is = tied.offset_is;
     garbler_sizes = tied.garbler_sizes;
@@ -107,6 +125,7 @@ module _ {L : Type 0} (K : Kind L) (F : L → ℕ → L) (bytes : List ℕ) (see
     waits = tied.waits;
     evaluated = tied.evaluated;
     shown = tied.shown;
+    finished = λ _. may_decode_finished n free;
     sent_room = tied.sent_room;
     marks_long = tied.marks_long;
     labels_marks_long = tied.labels_marks_long;

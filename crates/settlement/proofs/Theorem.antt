@@ -1,5 +1,5 @@
 -- The theorem on settlements: the tie holds between any two calls, and with it every claim. Assumes nothing.
-use Rattle.std.proofs.Common.{◌≡◌, ℕ, zero, suc, ◌<◌, ◌≤◌, Bool, true, false, cond, eqb, ltb, slice_index, sym, ap, ap₂, ◌∙◌, subst, inl, inr, arith}
+use Rattle.std.proofs.Common.{◌≡◌, ℕ, zero, suc, ◌<◌, ◌≤◌, Bool, true, false, cond, eqb, ltb, slice_index, sym, ap, ap₂, ◌∙◌, subst, inl, inr, arith, not, ◌&&◌, length}
 use Rattle.std.proofs.lemmas.Bool.{cases_Bool, cases_lt, lt-ltb, le-ltb}
 use Rattle.std.proofs.lemmas.Bool.Decides.{nat_tests}
 use Rattle.labels.specs.Kind.{Kind, times}
@@ -19,8 +19,13 @@ use Rattle.settlement.specs.Lines.{call_at, line_at, is_accepted}
 use Rattle.settlement.specs.Runs.{Settlement, Step, Ran}
 use Rattle.settlement.specs.Claims.{given, bit_of, garbler_sum, evaluator_sum, garbler_made, evaluator_made, label_of, Alike, SameLine, Claims, LineClaims}
 use Rattle.settlement.specs.declared.call.Call.{Call}
-use Rattle.settlement.specs.declared.call.Call.TheVariants.{Encode}
+use Rattle.settlement.specs.declared.call.Call.TheVariants.{Encode, Certify}
 use Rattle.settlement.specs.declared.line.Answer.TheVariants as Answers
+use Rattle.circuit.proofs.Checks.{or_else_none}
+use Rattle.parties.specs.Turns.{gates_left}
+use Rattle.parties.specs.Refusing.{output_refusal}
+use Rattle.settlement.specs.Stands.{output_label}
+use Rattle.settlement.proofs.Certifying.{certify_value}
 use Rattle.settlement.proofs.Between.{ruled, Tied}
 use Rattle.settlement.proofs.Outcomes.{accepted_is}
 use Rattle.settlement.proofs.Kept.{call_keeps}
@@ -38,7 +43,7 @@ module _ {L : Type 0} (K : Kind L) (r : Settlement L) (n : ℕ) (ran : Ran K r n
   abbrev seed : L
   seed = (r.at 0).seed
 
-  colours_offset : K.colour (offset F seed K) ≡ true
+  pub colours_offset : K.colour (offset F seed K) ≡ true
   colours_offset = ap K.colour (sym ran.begun.offset_is) ∙ ran.begun.coloured
 
   step_at : (k : ℕ) → k < n → Step K F F r.circuit (r.at k) (call_at r.calls k) (line_at r.lines k).answer (r.at (suc k))
@@ -118,10 +123,23 @@ module _ {L : Type 0} (K : Kind L) (r : Settlement L) (n : ℕ) (ran : Ran K r n
       decode_case K F r.circuit seed ran.begun.passes colours_offset (r.at k) (given r k) (tied_at k (omega arith)) (call_at r.calls k) a (r.at (suc k)) F acc.2 acc.0 acc.1 (ap is_decoded ea) o lo
       ∙ ap (λ (x : ℕ → Bool). digit (plain_bit c' x (output_of c' o))) (sym (decode_notes K F r.circuit seed ran.begun.passes colours_offset (r.at k) (given r k) (tied_at k (omega arith)) (call_at r.calls k) a F (r.at k) (r.at (suc k)) acc.2 (ap is_decoded ea) (given r k)))
 
+  certifies_claim : (k : ℕ) → k < n → (o : ℕ) (bit : Bool) → call_at r.calls k ≡ Certify o → (line_at r.lines k).answer ≡ Answers.Certified bit → bit ≡ bit_of r k (output_of c' o)
+  certifies_claim k l o bit ec ea =
+      let s = r.at k in
+      let a = (line_at r.lines k).answer in
+      let step = subst (λ (q : Call). Step K F F r.circuit s q a (r.at (suc k))) ec (step_at k l) in
+      let acc = accepted_is K F F r.circuit s (Certify o) a (r.at (suc k)) step (ap is_accepted ea) in
+      let value = acc.2.answer in
+      let same_bit : Answers.Certified bit ≡ Answers.Certified (not (K.same (output_label s K r.circuit o) (places K s.zeros (output_of c' o)))) = sym ea ∙ value in
+      let is : bit ≡ not (K.same (output_label s K r.circuit o) (places K s.zeros (output_of c' o))) = cc in
+      let free = or_else_none (output_refusal s.garbler r.circuit (not s.garbler.ended && not (gates_left s.garbler)) (length s.zeros) o) _ acc.1 in
+      is ∙ certify_value K F r.circuit seed ran.begun.passes colours_offset s (given r k) (tied_at k (omega arith)) o acc.0 free.0
+
   pub line_claims : (k : ℕ) → k < n → ((o : Settlement L) → Ran K o (suc k) → o.evaluator_hash ≡ o.garbler_hash → Alike r o → SameLine r o k) → LineClaims K r k
   line_claims k l alike = record {
     encodes = λ i b label ec ea. encodes_claim k l i b label ec ea;
     colours = λ m e o lo. ((tied_at (suc k) (omega arith)).shown m e).1 o lo;
     decodes = λ ea o lo. decodes_claim k l ea o lo;
+    certifies = λ o bit ec ea. certifies_claim k l o bit ec ea;
     alike = alike;
   }

@@ -36,7 +36,7 @@ use Rattle.settlement.specs.Stands.{stands, refusal, is_shown, colours_by}
 use Rattle.settlement.specs.Accepted.{Accepted}
 use Rattle.settlement.specs.Claims.{noted}
 use Rattle.settlement.specs.declared.call.Call.{Call}
-use Rattle.settlement.specs.declared.call.Call.TheVariants.{Garble, Encode, Deliver, Evaluate, Colours, Decode}
+use Rattle.settlement.specs.declared.call.Call.TheVariants.{Garble, Encode, Deliver, Evaluate, Colours, Decode, Certify}
 use Rattle.settlement.specs.declared.line.Answer.{Answer}
 use Rattle.settlement.specs.declared.line.Answer.TheVariants as Answers
 use Rattle.settlement.proofs.Between.{ruled, Tied}
@@ -51,6 +51,7 @@ is_decoded Answers.Delivered = false
 is_decoded (Answers.Evaluated bytes) = false
 is_decoded Answers.Coloured = false
 is_decoded Answers.Decoded = true
+is_decoded (Answers.Certified bit) = false
 
 differs_back : (p b : Bool) → differs (differs p b) p ≡ b
 differs_back true true = refl
@@ -124,6 +125,7 @@ module _ {L : Type 0} (K : Kind L) (F : L → ℕ → L) (bytes : List ℕ) (see
   decode_notes (Evaluate n) a E z t acc e y = refl
   decode_notes (Colours n) a E z t acc e y = refl
   decode_notes (Decode n) a E z t acc e y = refl
+  decode_notes (Certify o) a E z t acc e y = refl
 
   pub decode_case : (call : Call) (a : Answer L) (t : State L) (E : L → ℕ → L) → Accepted K bytes s a t F E call → stands s call ≡ true → refusal s K bytes call ≡ None → is_decoded a ≡ true
       → (o : ℕ) → o < d.sizes.outputs → slice_index t.outputs o ≡ digit (plain_bit d x (output_of d o))
@@ -133,3 +135,4 @@ module _ {L : Type 0} (K : Kind L) (F : L → ℕ → L) (bytes : List ℕ) (see
   decode_case (Evaluate n) a t E acc standing free e o l = true_false (is_decoded a) e (ap is_decoded acc.answer)
   decode_case (Colours n) a t E acc standing free e o l = true_false (is_decoded a) e (ap is_decoded acc.answer)
   decode_case (Decode n) a t E acc standing free e o l = ap (λ (z : State L). slice_index z.outputs o) acc.leaves ∙ decode_value n standing free o l
+  decode_case (Certify k) a t E acc standing free e o l = true_false (is_decoded a) e (ap is_decoded acc.answer)

@@ -1,11 +1,11 @@
 -- What an accepted call answers and leaves. Assumes nothing.
-use Rattle.std.specs.Prelude.{◌≡◌, ℕ, ◌*◌, List, ◌++◌, length, take, drop, replicate, Some, slice_set}
+use Rattle.std.specs.Prelude.{◌≡◌, ℕ, not, ◌*◌, List, ◌++◌, length, take, drop, replicate, Some, slice_set}
 use Rattle.labels.specs.Kind.{Kind}
 use Rattle.hashes.specs.Count.{counted}
 use Rattle.wires.specs.Wires.{Grown}
 use Rattle.circuit.specs.Parts.{parts_of}
 use Rattle.circuit.specs.Forms.{makes}
-use Rattle.circuit.specs.Gates.{form_of}
+use Rattle.circuit.specs.Gates.{form_of, output_of}
 use Rattle.circuit.specs.Material.{gate_bits, gate_bytes}
 use Rattle.gates.specs.Bytes.{laid, part}
 use Rattle.steps.specs.Gate.{new_zeros, gate_material, new_labels, garble_calls, evaluate_calls}
@@ -15,11 +15,11 @@ use Rattle.memory.specs.Outputs.{colours_of, decoded_of}
 use Rattle.garbler.specs.Garbling.{encoded}
 use Rattle.parties.specs.Side.{marked, stepped}
 use Rattle.settlement.specs.State.{State, by_garble, by_encode, by_deliver, by_evaluate, by_colours, by_decode}
-use Rattle.settlement.specs.Stands.{colours_by}
+use Rattle.settlement.specs.Stands.{colours_by, output_label}
 use Rattle.settlement.specs.declared.call.Call.{Call}
-use Rattle.settlement.specs.declared.call.Call.TheVariants.{Garble, Encode, Deliver, Evaluate, Colours, Decode}
+use Rattle.settlement.specs.declared.call.Call.TheVariants.{Garble, Encode, Deliver, Evaluate, Colours, Decode, Certify}
 use Rattle.settlement.specs.declared.line.Answer.{Answer}
-use Rattle.settlement.specs.declared.line.Answer.TheVariants.{Garbled, Encoded, Delivered, Evaluated, Coloured, Decoded}
+use Rattle.settlement.specs.declared.line.Answer.TheVariants.{Garbled, Encoded, Delivered, Evaluated, Coloured, Decoded, Certified}
 
 -- a is what the call answers, and t what s becomes
 module _ {L : Type 0} (K : Kind L) (F : L → ℕ → L) (bytes : List ℕ) (s : State L) (a : Answer L) (t : State L) where
@@ -68,6 +68,11 @@ module _ {L : Type 0} (K : Kind L) (bytes : List ℕ) (s : State L) (a : Answer 
     pub answer : a ≡ Decoded
     pub leaves : t ≡ by_decode s (decoded_of K s.labels (parts_of (open_copy bytes)).outputs (colours_by s.shown s.colours) (length (take n s.outputs)) ++ drop n s.outputs)
 
+  -- certify: whether the evaluator's label of the output is another than its zero label
+  pub record Certifies (output : ℕ) : Type 0 where
+    pub answer : a ≡ Certified (not (K.same (output_label s K bytes output) (places K s.zeros (output_of (parts_of bytes) output))))
+    pub leaves : t ≡ s
+
   -- F and E are the functions of the garbler's hash and of the evaluator's
   abbrev pub Accepted : (F E : L → ℕ → L) → Call → Type 0
   Accepted F E (Garble scratch material) = Garbles K F bytes s a t scratch material
@@ -76,3 +81,4 @@ module _ {L : Type 0} (K : Kind L) (bytes : List ℕ) (s : State L) (a : Answer 
   Accepted F E (Evaluate scratch) = Evaluates K E bytes s a t scratch
   Accepted F E (Colours n) = Shows n
   Accepted F E (Decode n) = Decodes n
+  Accepted F E (Certify output) = Certifies output

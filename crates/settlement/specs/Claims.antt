@@ -14,8 +14,8 @@ use Rattle.settlement.specs.State.{State}
 use Rattle.settlement.specs.Lines.{call_at, line_at, is_accepted, bare}
 use Rattle.settlement.specs.Runs.{Settlement, Ran}
 use Rattle.settlement.specs.declared.call.Call.{Call}
-use Rattle.settlement.specs.declared.call.Call.TheVariants.{Garble, Encode, Deliver, Evaluate, Colours, Decode}
-use Rattle.settlement.specs.declared.line.Answer.TheVariants.{Encoded, Decoded}
+use Rattle.settlement.specs.declared.call.Call.TheVariants.{Garble, Encode, Deliver, Evaluate, Colours, Decode, Certify}
+use Rattle.settlement.specs.declared.line.Answer.TheVariants.{Encoded, Decoded, Certified}
 
 -- an accepted encode gives its input its bit
 abbrev pub noted : Call → Bool → (ℕ → Bool) → ℕ → Bool
@@ -25,6 +25,7 @@ noted (Deliver input) accepted x i = x i
 noted (Evaluate scratch) accepted x i = x i
 noted (Colours n) accepted x i = x i
 noted (Decode n) accepted x i = x i
+noted (Certify output) accepted x i = x i
 
 -- hash calls of an accepted call, at the next gate of either side
 abbrev pub garbler_cost : Parts → Call → ℕ → ℕ
@@ -34,6 +35,7 @@ garbler_cost c (Deliver input) next = 0
 garbler_cost c (Evaluate scratch) next = 0
 garbler_cost c (Colours n) next = 0
 garbler_cost c (Decode n) next = 0
+garbler_cost c (Certify output) next = 0
 
 abbrev pub evaluator_cost : Parts → Call → ℕ → ℕ
 evaluator_cost c (Garble scratch material) next = 0
@@ -42,6 +44,7 @@ evaluator_cost c (Deliver input) next = 0
 evaluator_cost c (Evaluate scratch) next = evaluate_calls c next
 evaluator_cost c (Colours n) next = 0
 evaluator_cost c (Decode n) next = 0
+evaluator_cost c (Certify output) next = 0
 
 module _ {L : Type 0} (r : Settlement L) where
   abbrev pub accepted_at : ℕ → Bool
@@ -80,6 +83,7 @@ SameCall (Deliver input) d = d ≡ Deliver input
 SameCall (Evaluate scratch) d = d ≡ Evaluate scratch
 SameCall (Colours n) d = d ≡ Colours n
 SameCall (Decode n) d = d ≡ Decode n
+SameCall (Certify output) d = d ≡ Certify output
 
 -- circuits alike in all but the row words
 pub record SameButRows (c d : Parts) : Type 0 where
@@ -108,7 +112,7 @@ pub record Alike {L : Type 0} (r o : Settlement L) : Type 0 where
   pub calls : (k : ℕ) → SameCall (call_at r.calls k) (call_at o.calls k)
   pub lengths : SameLengths (r.at 0) (o.at 0)
 
--- what line k shows, but for labels: not made, refused why, or the lengths; and both counts
+-- what line k shows, but for labels and bits: not made, refused why, or the lengths; and both counts
 pub record SameLine {L : Type 0} (r o : Settlement L) (k : ℕ) : Type 0 where
   pub answer : bare (line_at o.lines k).answer ≡ bare (line_at r.lines k).answer
   pub garbler_count : (line_at o.lines k).garbler_count ≡ (line_at r.lines k).garbler_count
@@ -145,5 +149,8 @@ module _ {L : Type 0} (K : Kind L) (r : Settlement L) where
     -- every bit decoded is the plain bit of its output
     pub decodes : (line_at r.lines k).answer ≡ Decoded → (o : ℕ) → o < (parts_of r.circuit).sizes.outputs
         → slice_index (r.at (suc k)).outputs o ≡ digit (bit_of r (suc k) (output_of (parts_of r.circuit) o))
+    -- every bit certified is the plain bit of its output
+    pub certifies : (output : ℕ) (bit : Bool) → call_at r.calls k ≡ Certify output → (line_at r.lines k).answer ≡ Certified bit
+        → bit ≡ bit_of r k (output_of (parts_of r.circuit) output)
     -- a settlement alike shows the same
     pub alike : (o : Settlement L) → Ran K o (suc k) → o.evaluator_hash ≡ o.garbler_hash → Alike r o → SameLine r o k

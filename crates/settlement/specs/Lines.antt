@@ -3,7 +3,7 @@ use Rattle.std.specs.Prelude.{ℕ, Bool, true, false, List, slice_index_or}
 use Rattle.settlement.specs.declared.call.Call.{Call}
 use Rattle.settlement.specs.declared.call.Call.TheVariants.{Garble}
 use Rattle.settlement.specs.declared.line.Answer.{Answer}
-use Rattle.settlement.specs.declared.line.Answer.TheVariants.{NotMade, Refused, Garbled, Encoded, Delivered, Evaluated, Coloured, Decoded}
+use Rattle.settlement.specs.declared.line.Answer.TheVariants.{NotMade, Refused, Garbled, Encoded, Delivered, Evaluated, Coloured, Decoded, Certified}
 use Rattle.settlement.specs.declared.line.Line.{Line}
 
 abbrev pub call_at : List Call → ℕ → Call
@@ -22,8 +22,9 @@ is_accepted Delivered = true
 is_accepted (Evaluated bytes) = true
 is_accepted Coloured = true
 is_accepted Decoded = true
+is_accepted (Certified bit) = true
 
--- what an answer shows but for a label
+-- what an answer shows but for a label or a bit
 abbrev pub bare : {L : Type 0} → Answer L → Answer ℕ
 bare NotMade = NotMade
 bare (Refused why) = Refused why
@@ -33,3 +34,4 @@ bare Delivered = Delivered
 bare (Evaluated bytes) = Evaluated bytes
 bare Coloured = Coloured
 bare Decoded = Decoded
+bare (Certified bit) = Certified false

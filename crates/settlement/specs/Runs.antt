@@ -50,6 +50,7 @@ module _ {L : Type 0} (K : Kind L) (r : Settlement L) where
     pub labels_room : wires_in (parts_of (open_copy r.circuit)) ≤ length (r.at 0).labels
     pub sent_room : 256 ≤ length (r.at 0).sent
     pub none_shown : (r.at 0).shown ≡ None
+    pub none_decoded : (r.at 0).decoded ≡ false
     pub garbler_count : (r.at 0).garbler_count ≡ counted r.garbler_came (1 + (parts_of r.circuit).sizes.inputs)
     pub evaluator_count : (r.at 0).evaluator_count ≡ r.evaluator_came
     pub evaluator_fits : r.evaluator_came < 2 ^ 64

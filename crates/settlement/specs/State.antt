@@ -1,9 +1,10 @@
 -- What both sides of a settlement hold between two calls. Assumes nothing.
-use Rattle.std.specs.Prelude.{ℕ, List, Option}
+use Rattle.std.specs.Prelude.{ℕ, Bool, true, List, Option}
 use Rattle.parties.specs.declared.side.Side.{Side}
 use Rattle.garbler.specs.declared.record.Garbler.{Garbler}
 use Rattle.evaluator.specs.declared.record.Evaluator.{Evaluator}
 use Rattle.settlement.specs.declared.lent.Lent.{Lent}
+use Rattle.settlement.specs.declared.past.Past.{Past}
 
 pub record State (L : Type 0) : Type 0 where
   -- how far each side has come, and the garbler's secrets
@@ -20,15 +21,16 @@ pub record State (L : Type 0) : Type 0 where
   pub material : List ℕ
   pub colours : List ℕ
   pub outputs : List ℕ
-  -- how many colours were shown, once some were
+  -- how many colours were shown, once some were, and whether outputs were decoded
   pub shown : Option ℕ
+  pub decoded : Bool
   -- the counts of both hashes
   pub garbler_count : ℕ
   pub evaluator_count : ℕ
 
 -- as the code holds it
-abbrev pub state_of : {L : Type 0} → Garbler L → Evaluator → Lent L → Option ℕ → ℕ → ℕ → State L
-state_of garbler evaluator lent shown garbler_count evaluator_count = record {
+abbrev pub state_of : {L : Type 0} → Garbler L → Evaluator → Lent L → Past → ℕ → ℕ → State L
+state_of garbler evaluator lent past garbler_count evaluator_count = record {
   garbler = garbler.progress.side;
   evaluator = evaluator.progress.side;
   seed = garbler.secrets.seed;
@@ -40,7 +42,8 @@ state_of garbler evaluator lent shown garbler_count evaluator_count = record {
   material = lent.material.now;
   colours = lent.colours.now;
   outputs = lent.outputs.now;
-  shown = shown;
+  shown = past.shown;
+  decoded = past.decoded;
   garbler_count = garbler_count;
   evaluator_count = evaluator_count;
 }
@@ -63,4 +66,4 @@ module _ {L : Type 0} (s : State L) where
   by_colours colours shown = record s { colours = colours; shown = shown }
 
   abbrev pub by_decode : List ℕ → State L
-  by_decode outputs = record s { outputs = outputs }
+  by_decode outputs = record s { outputs = outputs; decoded = true }

@@ -8,4 +8,5 @@ pub enum Call {
     Evaluate { scratch: usize },
     Colours { length: usize },
     Decode { length: usize },
+    Certify { output: usize },
 }

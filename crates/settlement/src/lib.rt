@@ -8,3 +8,4 @@ pub mod lent;
 pub mod line;
 mod next_gate;
 mod outputs;
+pub mod past;

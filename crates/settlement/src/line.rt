@@ -15,6 +15,8 @@ pub enum Answer<L> {
     Evaluated { bytes: usize },
     Coloured,
     Decoded,
+    // The output's bit.
+    Certified(bool),
 }
 
 // The answer, and the counts of both hashes after it.

@@ -1,2 +1,6 @@
 mod Lending
 mod Making
+mod Answering
+mod Running
+mod Theorem
+mod Settling

@@ -56,6 +56,10 @@ module _ {L : Type 0} (K : Kind L) (F E : L → ℕ → L) (bytes : List ℕ) (s
   pub sent_long : (a : Answer L) → Step K F E bytes s call a t → length t.sent ≡ length s.sent
   sent_long a m = sent_by a _ _ refl refl m
 
+-- by equal functions of the hashes
+pub step_with : {L : Type 0} (K : Kind L) (F E F' E' : L → ℕ → L) (bytes : List ℕ) (s t : State L) (call : Call) (a : Answer L) → F' ≡ F → E' ≡ E → Step K F' E' bytes s call a t → Step K F E bytes s call a t
+step_with K F E F' E' bytes s t call a ef ee m = rw (← ef, ← ee) m
+
 -- the states so far, and one more
 then_at : {L : Type 0} → (ℕ → State L) → ℕ → State L → ℕ → State L
 then_at at k new j = cond (nat_lt k j) new (at j)
@@ -70,10 +74,6 @@ module _ {L : Type 0} (at : ℕ → State L) (k : ℕ) (new : State L) where
   after j h = ap (λ (b : Bool). cond b new (at j)) (lt-ltb k j h)
 
 module _ {L : Type 0} (K : Kind L) (F E : L → ℕ → L) (bytes : List ℕ) (calls : List Call) (first : State L) where
-  -- by equal functions of the hashes
-  pub step_with : (F' E' : L → ℕ → L) (s t : State L) (call : Call) (a : Answer L) → F' ≡ F → E' ≡ E → Step K F' E' bytes s call a t → Step K F E bytes s call a t
-  step_with F' E' s t call a ef ee m = rw (← ef, ← ee) m
-
   step_same : (s s' t t' : State L) (call : Call) (a a' : Answer L) → s' ≡ s → t' ≡ t → a' ≡ a → Step K F E bytes s call a t → Step K F E bytes s' call a' t'
   step_same s s' t t' call a a' es et ea m = rw (es, et, ea) m
 

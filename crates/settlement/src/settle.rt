@@ -3,6 +3,7 @@ ghost use Rattle.std.specs.Prelude.{◌≡◌, ℕ, ◌+◌, ◌≤◌, ◌++◌
 ghost use Rattle.hashes.specs.Count.{counted};
 ghost use Rattle.circuit.specs.Parts.{parts_of};
 ghost use Rattle.circuit.specs.Refusals.{or_else};
+ghost use Rattle.circuit.specs.declared.refusal.Refusal.{Refusal};
 ghost use Rattle.memory.specs.Copy.{open_copy};
 ghost use Rattle.parties.specs.Refusing.{open_refusal, join_refusal};
 ghost use Rattle.settlement.specs.State.{state_of};
@@ -90,7 +91,8 @@ pub fn settle<L: Label, G: LabelHash<L>, H: LabelHash<L>>(
     ensures evaluator_kept { H.means evaluator_hash.new ≡ H.means evaluator_hash.old }
     ensures loans { SameLoans lent.old lent.new }
     ensures accepted { OnOk result (settle_refusal L.kind (G.means garbler_hash.old) circuit.now seed.old garbler.old.progress.side evaluator.old.progress.side (length lent.old.zeros.now) (length lent.old.labels.now) (room_of (length calls.now) (length lines.old) (length lent.old.sent.now) (length copy.old)) ≡ None) }
-    ensures copied { OnOk result (copy.new ≡ open_copy circuit.now ++ drop (length circuit.now) copy.old) }
+    ensures copied { own_refusal circuit.now (room_of (length calls.now) (length lines.old) (length lent.old.sent.now) (length copy.old)) ≡ None → copy.new ≡ open_copy circuit.now ++ drop (length circuit.now) copy.old }
+    ensures uncopied { (why : Refusal) → own_refusal circuit.now (room_of (length calls.now) (length lines.old) (length lent.old.sent.now) (length copy.old)) ≡ Some why → copy.new ≡ copy.old }
     ensures settled { OnOk result (Ended L.kind (G.means garbler_hash.old) (H.means evaluator_hash.old) circuit.now seed.old calls.now lines.new (state_of garbler.old evaluator.old lent.old None (G.calls garbler_hash.old) (H.calls evaluator_hash.old)) (λ shown. state_of garbler.new evaluator.new lent.new shown (G.calls garbler_hash.new) (H.calls evaluator_hash.new))) }
     ensures past { OnOk result (drop (length calls.now) lines.new ≡ drop (length calls.now) lines.old) }
     ensures refused { IfErr result (λ why. settle_refusal L.kind (G.means garbler_hash.old) circuit.now seed.old garbler.old.progress.side evaluator.old.progress.side (length lent.old.zeros.now) (length lent.old.labels.now) (room_of (length calls.now) (length lines.old) (length lent.old.sent.now) (length copy.old)) ≡ Some why) }

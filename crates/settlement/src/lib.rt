@@ -2,9 +2,11 @@
 #![tactic(auto)]
 
 pub mod call;
-
 mod inputs;
 pub mod lent;
 pub mod line;
 mod next_gate;
 mod outputs;
+mod run;
+pub mod settle;
+mod step;

@@ -1,5 +1,7 @@
 mod Lending
 mod Making
+mod Answering
+mod Running
 mod Facts
 mod Turning
 mod Circuits
@@ -19,3 +21,4 @@ mod AlikeBits
 mod AlikeRefusals
 mod AlikeCalls
 mod Alike
+mod Settling

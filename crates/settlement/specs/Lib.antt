@@ -4,5 +4,7 @@ pub mod Stands
 pub mod Accepted
 pub mod Made
 pub mod Runs
+pub mod Followed
 pub mod Claims
 pub mod Settled
+pub mod Ended

@@ -17,7 +17,6 @@ pub record Made {L : Type 0} (K : Kind L) (F E : L → ℕ → L) (bytes : List 
 
 -- the same memories are lent still
 pub record SameLoans {L : Type 0} (old new : Lent L) : Type 0 where
-  pub copy : new.copy.ghost_name ≡ old.copy.ghost_name
   pub zeros : new.zeros.ghost_name ≡ old.zeros.ghost_name
   pub labels : new.labels.ghost_name ≡ old.labels.ghost_name
   pub sent : new.sent.ghost_name ≡ old.sent.ghost_name

@@ -1,5 +1,5 @@
 -- What both sides of a settlement hold between two calls. Assumes nothing.
-use Rattle.std.specs.Prelude.{ℕ, Bool, true, List, Option}
+use Rattle.std.specs.Prelude.{ℕ, Bool, true, false, List, None, Option}
 use Rattle.parties.specs.declared.side.Side.{Side}
 use Rattle.garbler.specs.declared.record.Garbler.{Garbler}
 use Rattle.evaluator.specs.declared.record.Evaluator.{Evaluator}
@@ -27,6 +27,10 @@ pub record State (L : Type 0) : Type 0 where
   -- the counts of both hashes
   pub garbler_count : ℕ
   pub evaluator_count : ℕ
+
+-- nothing was shown or decoded yet
+abbrev pub no_past : Past
+no_past = record { shown = None; decoded = false }
 
 -- as the code holds it
 abbrev pub state_of : {L : Type 0} → Garbler L → Evaluator → Lent L → Past → ℕ → ℕ → State L

@@ -1,1 +1,65 @@
-// The inputs.
+// The inputs: encode's label, which deliver carries.
+ghost use Rattle.std.specs.Prelude.{◌≡◌, ℕ, ◌≤◌, List, length, Option};
+ghost use Rattle.tables.specs.Table.{places};
+ghost use Rattle.memory.specs.Copy.{open_copy};
+ghost use Rattle.garbler.specs.declared.record.Garbler.{Garbler};
+ghost use Rattle.evaluator.specs.declared.record.Evaluator.{Evaluator};
+ghost use Rattle.settlement.specs.declared.call.Call.{Call};
+ghost use Rattle.settlement.specs.declared.call.Call.TheVariants.{Encode, Deliver};
+ghost use Rattle.settlement.specs.declared.past.Past.{Past};
+ghost use Rattle.settlement.specs.State.{state_of};
+ghost use Rattle.settlement.specs.Made.{Made, SameLoans};
+
+use crate::lent::Lent;
+use crate::line::Answer;
+use evaluator::record::Evaluator;
+use garbler::record::Garbler;
+use labels::kind::Label;
+
+// Encodes, and keeps the label for deliver.
+pub fn encode<L: Label>(
+    garbler: &mut Garbler<L>,
+    circuit: &[u8],
+    lent: &mut Lent<L>,
+    input: usize,
+    bit: u8,
+) -> Answer<L>
+    requires { 256 ≤ length lent.old.sent.now }
+    ensures made { (F E : L → ℕ → L) (evaluator : Evaluator) (past : Past) (m n : ℕ) → Made L.kind F E circuit.now (Encode input bit) (state_of garbler.old evaluator lent.old past m n) result (state_of garbler.new evaluator lent.new past m n) }
+    ensures loans { SameLoans lent.old lent.new }
+{
+    match garbler.encode(circuit, &mut *lent.zeros, input, bit) {
+        Ok(label) => {
+            lent.sent[input] = label;
+            Answer::Encoded(label)
+        }
+        Err(why) => Answer::Refused(why),
+    }
+}
+
+// The label at a place, or the zero label past the last.
+pub fn label_or_zero<L: Label>(labels: &[L], place: usize) -> L
+    ensures { result ≡ places L.kind labels.now place }
+{
+    match labels.get(place) {
+        Some(label) => *label,
+        None => L::zero(),
+    }
+}
+
+// Delivers the label that encode answered.
+pub fn deliver<L: Label>(
+    evaluator: &mut Evaluator,
+    copy: &[u8],
+    lent: &mut Lent<L>,
+    input: usize,
+) -> Answer<L>
+    ensures made { (F E : L → ℕ → L) (garbler : Garbler L) (circuit : List ℕ) (past : Past) (m n : ℕ) → copy.now ≡ open_copy circuit → Made L.kind F E circuit (Deliver input) (state_of garbler evaluator.old lent.old past m n) result (state_of garbler evaluator.new lent.new past m n) }
+    ensures loans { SameLoans lent.old lent.new }
+{
+    let label = label_or_zero(&mut *lent.sent, input);
+    match evaluator.deliver(copy, lent.labels, input, label) {
+        Ok(()) => Answer::Delivered,
+        Err(why) => Answer::Refused(why),
+    }
+}

@@ -2,8 +2,6 @@
 
 #[derive(Drop)]
 pub struct Lent<'a, L> {
-    // The evaluator's open copy of the circuit.
-    pub copy: &'a mut [u8],
     // The garbler's wire memory, and the evaluator's.
     pub zeros: &'a mut [L],
     pub labels: &'a mut [L],

@@ -2,10 +2,12 @@
 #![tactic(auto)]
 
 pub mod call;
-
 mod inputs;
 pub mod lent;
 pub mod line;
 mod next_gate;
 mod outputs;
 pub mod past;
+mod run;
+pub mod settle;
+mod step;

@@ -1,10 +1,12 @@
 // The next gate of either side.
-ghost use Rattle.std.specs.Prelude.{◌≡◌, ℕ, Option};
+ghost use Rattle.std.specs.Prelude.{◌≡◌, ℕ, List, Option};
+ghost use Rattle.memory.specs.Copy.{open_copy};
+ghost use Rattle.garbler.specs.declared.record.Garbler.{Garbler};
 ghost use Rattle.evaluator.specs.declared.record.Evaluator.{Evaluator};
 ghost use Rattle.settlement.specs.declared.call.Call.{Call};
-ghost use Rattle.settlement.specs.declared.call.Call.TheVariants.{Garble};
+ghost use Rattle.settlement.specs.declared.call.Call.TheVariants.{Garble, Evaluate};
+ghost use Rattle.settlement.specs.declared.past.Past.{Past};
 ghost use Rattle.settlement.specs.State.{state_of};
-
 ghost use Rattle.settlement.specs.Made.{Made, SameLoans};
 
 use crate::lent::Lent;
@@ -23,7 +25,7 @@ pub fn garble<L: Label, G: LabelHash<L>>(
     scratch: usize,
     material: usize,
 ) -> Answer<L>
-    ensures made { (E : L → ℕ → L) (evaluator : Evaluator) (shown : Option ℕ) (count : ℕ) → Made L.kind (G.means h.old) E circuit.now (Garble scratch material) (state_of garbler.old evaluator lent.old shown (G.calls h.old) count) result (state_of garbler.new evaluator lent.new shown (G.calls h.new) count) }
+    ensures made { (E : L → ℕ → L) (evaluator : Evaluator) (past : Past) (count : ℕ) → Made L.kind (G.means h.old) E circuit.now (Garble scratch material) (state_of garbler.old evaluator lent.old past (G.calls h.old) count) result (state_of garbler.new evaluator lent.new past (G.calls h.new) count) }
     ensures loans { SameLoans lent.old lent.new }
     ensures kept { G.means h.new ≡ G.means h.old }
 {
@@ -41,6 +43,37 @@ pub fn garble<L: Label, G: LabelHash<L>>(
         Ok(bits) => Answer::Garbled {
             bits,
             bytes: garbler.written() - before,
+        },
+        Err(why) => Answer::Refused(why),
+    }
+}
+
+// Evaluates, with so much scratch and the material that is written.
+pub fn evaluate<L: Label, H: LabelHash<L>>(
+    evaluator: &mut Evaluator,
+    h: &mut H,
+    copy: &[u8],
+    lent: &mut Lent<L>,
+    scratch: usize,
+    written: usize,
+) -> Answer<L>
+    ensures made { (F : L → ℕ → L) (garbler : Garbler L) (circuit : List ℕ) (past : Past) (count : ℕ) → copy.now ≡ open_copy circuit → written ≡ garbler.progress.side.bytes → Made L.kind F (H.means h.old) circuit (Evaluate scratch) (state_of garbler evaluator.old lent.old past count (H.calls h.old)) result (state_of garbler evaluator.new lent.new past count (H.calls h.new)) }
+    ensures loans { SameLoans lent.old lent.new }
+    ensures kept { H.means h.new ≡ H.means h.old }
+{
+    let before = evaluator.read();
+    let scratch = scratch.min(lent.scratch.len());
+    let written = written.min(lent.material.len());
+    let evaluated = evaluator.evaluate(
+        h,
+        copy,
+        lent.labels,
+        &mut lent.material[..written],
+        &mut lent.scratch[..scratch],
+    );
+    match evaluated {
+        Ok(()) => Answer::Evaluated {
+            bytes: evaluator.read() - before,
         },
         Err(why) => Answer::Refused(why),
     }

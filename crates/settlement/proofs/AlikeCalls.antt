@@ -230,7 +230,6 @@ module _ {L : Type 0} (K : Kind L) (r o : List ℕ) (turns : SameTurns r o) (cop
         evaluator_count = same.evaluator_count;
       });
     }
-
     accepted_same (Certify k) y p q = record {
       answer = ap bare q.answer ∙ sym (ap bare p.answer);
       sides = carried u v p.leaves q.leaves same;

@@ -1,5 +1,5 @@
 -- What a call of the settlement is, refused or accepted. Assumes nothing.
-use Rattle.std.proofs.Common.{◌≡◌, ℕ, ◌-◌, ◌+◌, ◌*◌, ◌<◌, ◌≤◌, ◌||◌, Bool, true, false, not, nat_lt, List, [], ◌∷◌, ◌++◌, length, take, drop, replicate, min, Some, None, Option, refl, ap, ap₂, ◌∙◌, sym, arith, slice_set, unwrap_or}
+use Rattle.std.proofs.Common.{◌≡◌, ℕ, ◌-◌, ◌+◌, ◌*◌, ◌<◌, Bool, true, false, not, nat_lt, List, [], ◌∷◌, ◌++◌, length, take, drop, replicate, min, Some, None, Option, refl, ap, ◌∙◌, sym, arith, slice_set, unwrap_or}
 use Rattle.std.proofs.lemmas.List.{take_min, length-take}
 use Rattle.std.proofs.lemmas.Bool.{leb-false}
 use Rattle.labels.specs.Kind.{Kind}

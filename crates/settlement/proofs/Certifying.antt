@@ -6,12 +6,11 @@ use Rattle.labels.specs.Kind.{Kind, differs, times}
 use Rattle.labels.specs.Longs.{and_right}
 use Rattle.hashes.specs.Draws.{offset}
 use Rattle.circuit.specs.Parts.{Parts, parts_of}
-use Rattle.circuit.specs.Gates.{output_of, wires_in}
+use Rattle.circuit.specs.Gates.{output_of}
 use Rattle.circuit.specs.Check.{circuit_refusal}
 use Rattle.circuit.specs.Refusals.{first_of, or_else}
 use Rattle.circuit.specs.declared.refusal.Refusal.{Refusal}
 use Rattle.circuit.specs.declared.refusal.Refusal.TheVariants.{Foreign}
-use Rattle.circuit.proofs.Checks.{or_else_none}
 use Rattle.plain.specs.Plain.{plain_bit}
 use Rattle.steps.specs.Whole.{zero_label}
 use Rattle.tables.specs.Table.{places}
@@ -56,8 +55,8 @@ module _ {L : Type 0} (K : Kind L) (Δ z : L) (coloured : K.colour Δ ≡ true) 
       ∙ ap (λ (q : Bool). not (q || K.same z (K.xor z Δ))) (K.same_self z)
 
 module _ {L : Type 0} (K : Kind L) (F : L → ℕ → L) (bytes : List ℕ) (seed : L) (passes : circuit_refusal bytes ≡ None) (coloured : K.colour (offset F seed K) ≡ true)
-  (s : State L) (x : ℕ → Bool) (tied : Tied K F bytes seed s x) (k : ℕ) (decoded : s.decoded ≡ true)
-  (free : output_refusal s.garbler bytes (not s.garbler.ended && not (gates_left s.garbler)) (length s.zeros) k ≡ None) where
+    (s : State L) (x : ℕ → Bool) (tied : Tied K F bytes seed s x) (k : ℕ) (decoded : s.decoded ≡ true)
+    (free : output_refusal s.garbler bytes (not s.garbler.ended && not (gates_left s.garbler)) (length s.zeros) k ≡ None) where
   abbrev d : Parts
   d = parts_of bytes
 
@@ -103,7 +102,7 @@ module _ {L : Type 0} (K : Kind L) (F : L → ℕ → L) (bytes : List ℕ) (see
 
 -- so it is refused by what both sides show alone
 module _ {L : Type 0} (K : Kind L) (F : L → ℕ → L) (bytes : List ℕ) (seed : L) (passes : circuit_refusal bytes ≡ None) (coloured : K.colour (offset F seed K) ≡ true)
-  (s : State L) (x : ℕ → Bool) (tied : Tied K F bytes seed s x) (k : ℕ) (decoded : s.decoded ≡ true) where
+    (s : State L) (x : ℕ → Bool) (tied : Tied K F bytes seed s x) (k : ℕ) (decoded : s.decoded ≡ true) where
   abbrev shown : Option Refusal
   shown = output_refusal s.garbler bytes (not s.garbler.ended && not (gates_left s.garbler)) (length s.zeros) k
 

@@ -51,7 +51,7 @@ module _ {L : Type 0} (K : Kind L) (F E : L → ℕ → L) (bytes : List ℕ) (p
   evaluator_spends (Deliver i) e acc = none_spent t.evaluator_count (ap (λ (z : State L). z.evaluator_count) acc.leaves ∙ e) (is_accepted a)
   evaluator_spends (Evaluate n) e acc =
       let cost : evaluate_calls (parts_of (open_copy bytes)) s.evaluator.next ≡ evaluate_calls (parts_of bytes) s.evaluator.next =
-          ap (λ (q : Parts). evaluate_calls q s.evaluator.next) (parts_open bytes passes) ∙ calls_open (parts_of bytes) s.evaluator.next
+      ap (λ (q : Parts). evaluate_calls q s.evaluator.next) (parts_open bytes passes) ∙ calls_open (parts_of bytes) s.evaluator.next
       in
       ap (λ (z : State L). z.evaluator_count) acc.leaves ∙ ap₂ counted e cost
       ∙ counted_more came sum (evaluate_calls (parts_of bytes) s.evaluator.next)

@@ -48,8 +48,8 @@ laid_behind p k m M old new e l n room =
     let first : take p (take m M) ≡ old = take-take p m M (omega arith) ∙ e in
     let rest = drop (p + length new) (take m M) in
     let shape : laid p new (take m M) ++ drop m M ≡ (old ++ new) ++ (rest ++ drop m M) =
-        ap (λ (xs : List ℕ). (xs ++ (new ++ rest)) ++ drop m M) first
-        ∙ append_assoc old (new ++ rest) (drop m M) ∙ ap (λ (xs : List ℕ). old ++ xs) (append_assoc new rest (drop m M)) ∙ sym (append_assoc old new (rest ++ drop m M))
+    ap (λ (xs : List ℕ). (xs ++ (new ++ rest)) ++ drop m M) first
+    ∙ append_assoc old (new ++ rest) (drop m M) ∙ ap (λ (xs : List ℕ). old ++ xs) (append_assoc new rest (drop m M)) ∙ sym (append_assoc old new (rest ++ drop m M))
     in
     let long = length-append old new in
     ap (take (p + k)) shape ∙ take_at (old ++ new) (rest ++ drop m M) (p + k) (omega arith)
@@ -73,10 +73,10 @@ module _ {L : Type 0} (K : Kind L) (F : L → ℕ → L) (bytes : List ℕ) (see
   pub garble_keeps : (n m : ℕ) → refusal s K bytes (Garble n m) ≡ None → (zeros scratch : List L) (count : ℕ)
       → Grown s.garbler.made (makes (form_of (parts_of bytes) s.garbler.next)) (places K (new_zeros (parts_of bytes) s.garbler.next K (places K s.zeros) F s.seed s.offset)) s.zeros zeros
       → Tied K F bytes seed (by_garble s
-          (stepped s.garbler (makes (form_of (parts_of bytes) s.garbler.next)) (gate_bytes (8 * K.width) (form_of (parts_of bytes) s.garbler.next)))
-          zeros
-          (laid s.garbler.bytes (gate_material (parts_of bytes) s.garbler.next K (places K s.zeros) F s.seed s.offset) (take m s.material) ++ drop m s.material)
-          scratch count) x
+      (stepped s.garbler (makes (form_of (parts_of bytes) s.garbler.next)) (gate_bytes (8 * K.width) (form_of (parts_of bytes) s.garbler.next)))
+      zeros
+      (laid s.garbler.bytes (gate_material (parts_of bytes) s.garbler.next K (places K s.zeros) F s.seed s.offset) (take m s.material) ++ drop m s.material)
+      scratch count) x
   garble_keeps n m free zeros scratch count grown =
       let g = s.garbler.next in
       let f = step_free s.garbler bytes K (not s.garbler.ended && gates_left s.garbler) (length s.zeros) (length (take n s.scratch)) (length (take m s.material)) free in
@@ -89,10 +89,10 @@ module _ {L : Type 0} (K : Kind L) (F : L → ℕ → L) (bytes : List ℕ) (see
       let room = f.enough in
       let agree : (w : ℕ) → w < made_before c g → places K s.zeros w ≡ zeros_of w = λ w l. tied.zeros w (omega arith) in
       let news : new_zeros c g K (places K s.zeros) F s.seed s.offset ≡ new_zeros c g K zeros_of F seed Δ =
-          (λ i. new_zeros c g K (places K s.zeros) F (tied.seed_is i) (tied.offset_is i)) ∙ zeros_same K F seed Δ c g ordered there (places K s.zeros) zeros_of agree
+      (λ i. new_zeros c g K (places K s.zeros) F (tied.seed_is i) (tied.offset_is i)) ∙ zeros_same K F seed Δ c g ordered there (places K s.zeros) zeros_of agree
       in
       let row : gate_material c g K (places K s.zeros) F s.seed s.offset ≡ material_at K F seed c g =
-          (λ i. gate_material c g K (places K s.zeros) F (tied.seed_is i) (tied.offset_is i)) ∙ material_same K F seed Δ c g ordered there (places K s.zeros) zeros_of agree
+      (λ i. gate_material c g K (places K s.zeros) F (tied.seed_is i) (tied.offset_is i)) ∙ material_same K F seed Δ c g ordered there (places K s.zeros) zeros_of agree
       in
       let long = material_long K F s.seed s.offset c g (places K s.zeros) in
       let next = made_next c g in
@@ -133,10 +133,10 @@ module _ {L : Type 0} (K : Kind L) (F : L → ℕ → L) (bytes : List ℕ) (see
 
   pub evaluate_keeps : K.colour (offset F seed K) ≡ true → (n : ℕ) → refusal s K bytes (Evaluate n) ≡ None → (labels scratch : List L) (count : ℕ)
       → Grown s.evaluator.made (makes (form_of (parts_of (open_copy bytes)) s.evaluator.next))
-          (places K (new_labels (parts_of (open_copy bytes)) s.evaluator.next K (places K s.labels) F (part s.evaluator.bytes (gate_bytes (8 * K.width) (form_of (parts_of (open_copy bytes)) s.evaluator.next)) (take s.garbler.bytes s.material)))) s.labels labels
+      (places K (new_labels (parts_of (open_copy bytes)) s.evaluator.next K (places K s.labels) F (part s.evaluator.bytes (gate_bytes (8 * K.width) (form_of (parts_of (open_copy bytes)) s.evaluator.next)) (take s.garbler.bytes s.material)))) s.labels labels
       → Tied K F bytes seed (by_evaluate s
-          (stepped s.evaluator (makes (form_of (parts_of (open_copy bytes)) s.evaluator.next)) (gate_bytes (8 * K.width) (form_of (parts_of (open_copy bytes)) s.evaluator.next)))
-          labels scratch count) x
+      (stepped s.evaluator (makes (form_of (parts_of (open_copy bytes)) s.evaluator.next)) (gate_bytes (8 * K.width) (form_of (parts_of (open_copy bytes)) s.evaluator.next)))
+      labels scratch count) x
   evaluate_keeps coloured n free labels scratch count grown =
       let g = s.evaluator.next in
       let d : Parts = parts_of (open_copy bytes) in
@@ -155,10 +155,10 @@ module _ {L : Type 0} (K : Kind L) (F : L → ℕ → L) (bytes : List ℕ) (see
       let written = ap length tied.written in
       let enough = f.enough in
       let own : part s.evaluator.bytes (gate_bytes (8 * K.width) (form_of d g)) (take s.garbler.bytes s.material) ≡ material_at K F seed c g =
-          (λ i. part (bytes_now i) (bytes_is i) (tied.written i)) ∙ part_is K F seed c g s.garbler.next (omega arith)
+      (λ i. part (bytes_now i) (bytes_is i) (tied.written i)) ∙ part_is K F seed c g s.garbler.next (omega arith)
       in
       let news : new_labels d g K (places K s.labels) F (part s.evaluator.bytes (gate_bytes (8 * K.width) (form_of d g)) (take s.garbler.bytes s.material)) ≡ new_labels c g K (places K s.labels) F (material_at K F seed c g) =
-          (λ i. new_labels (p i) g K (places K s.labels) F (own i)) ∙ labels_open K F (material_at K F seed c g) c g (places K s.labels)
+      (λ i. new_labels (p i) g K (places K s.labels) F (own i)) ∙ labels_open K F (material_at K F seed c g) c g (places K s.labels)
       in
       let next = made_next c g in
       let behind = next_long K F seed c g in

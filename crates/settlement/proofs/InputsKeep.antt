@@ -62,7 +62,7 @@ module _ {L : Type 0} (K : Kind L) (F : L → ℕ → L) (bytes : List ℕ) (see
       let bit_else : (j : ℕ) → (j ≡ i → ⊥) → x j ≡ cond (eqb j i) (eqb b 1) (x j) = λ j q. let e = ne_eqb j i q in rw e refl in
       let mark_else : (j : ℕ) → (j ≡ i → ⊥) → is_marked (set s.garbler.marks i true) j ≡ is_marked s.garbler.marks j = λ j q. get_or-set_other s.garbler.marks i j true false q in
       let not_here : (j : ℕ) → j < c.sizes.inputs → is_marked s.evaluator.marks j ≡ true → j ≡ i → ⊥ =
-          λ j l mk p. true_false (is_marked s.garbler.marks i) (ap (is_marked s.garbler.marks) (sym p) ∙ tied.after_encode j l mk) f.new
+      λ j l mk p. true_false (is_marked s.garbler.marks i) (ap (is_marked s.garbler.marks) (sym p) ∙ tied.after_encode j l mk) f.new
       in
       record {
         seed_is = tied.seed_is;
@@ -115,11 +115,11 @@ module _ {L : Type 0} (K : Kind L) (F : L → ℕ → L) (bytes : List ℕ) (see
       ] in
       let mark_else : (j : ℕ) → (j ≡ i → ⊥) → is_marked (set s.evaluator.marks i true) j ≡ is_marked s.evaluator.marks j = λ j q. get_or-set_other s.evaluator.marks i j true false q in
       let now : (j : ℕ) → j < c.sizes.inputs → is_marked (set s.evaluator.marks i true) j ≡ true → places K (set s.labels i (places K s.sent i)) j ≡ ruled K F bytes seed j (x j) =
-          λ j l mk. elim (cases_eq j i) [
-            | inl p ↦ ap (places K (set s.labels i (places K s.sent i))) p ∙ get_or-set_same s.labels i (places K s.sent i) K.zero (omega arith)
-                ∙ tied.sent i was_encoded ∙ ap (λ (k : ℕ). ruled K F bytes seed k (x k)) (sym p)
-            | inr q ↦ get_or-set_other s.labels i j (places K s.sent i) K.zero q ∙ tied.delivered j l (sym (mark_else j q) ∙ mk)
-          ]
+      λ j l mk. elim (cases_eq j i) [
+        | inl p ↦ ap (places K (set s.labels i (places K s.sent i))) p ∙ get_or-set_same s.labels i (places K s.sent i) K.zero (omega arith)
+            ∙ tied.sent i was_encoded ∙ ap (λ (k : ℕ). ruled K F bytes seed k (x k)) (sym p)
+        | inr q ↦ get_or-set_other s.labels i j (places K s.sent i) K.zero q ∙ tied.delivered j l (sym (mark_else j q) ∙ mk)
+      ]
       in
       let made = tied.evaluator_made in
       let first : s.evaluator.made ≡ c.sizes.inputs = made ∙ ap (made_before c) waiting ∙ made_zero c in

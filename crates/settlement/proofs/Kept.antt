@@ -19,7 +19,7 @@ use Rattle.settlement.proofs.OutputsKeep.{colours_keep, decode_keeps}
 use Rattle.settlement.proofs.Outcomes.{stays, goes, outcome, not_noted}
 
 module _ {L : Type 0} (K : Kind L) (F : L → ℕ → L) (bytes : List ℕ) (seed : L) (passes : circuit_refusal bytes ≡ None) (coloured : K.colour (offset F seed K) ≡ true)
-  (s : State L) (x : ℕ → Bool) (tied : Tied K F bytes seed s x) (a : Answer L) (t : State L) where
+    (s : State L) (x : ℕ → Bool) (tied : Tied K F bytes seed s x) (a : Answer L) (t : State L) where
   keeps : (call : Call) → stands s call ≡ true → refusal s K bytes call ≡ None → Accepted K bytes s a t F F call → (is_accepted a ≡ true) × Tied K F bytes seed t (noted call true x)
   keeps (Garble n m) standing free acc =
       (ap is_accepted acc.answer, subst (λ (z : State L). Tied K F bytes seed z x) (sym acc.leaves) (garble_keeps K F bytes seed passes s x tied n m free t.zeros _ _ acc.wires))

@@ -87,9 +87,10 @@ module _ {L : Type 0} (K : Kind L) (F : L → ℕ → L) (bytes : List ℕ) (see
         waits = tied.waits;
         evaluated = tied.evaluated;
         shown = λ k e. (
-            (let q : m ≡ k = some_same m k e in sym q ∙ as_many),
-            (λ o l. get_or_append_left (listed m f_at) (drop n s.colours) 0 o (omega arith) ∙ get_or_listed f_at m o 0 (omega arith)
-                ∙ ap (λ (z : L). digit (K.colour z)) (all_zeros none (output_of c o) (outputs_made bytes passes o l))));
+          (let q : m ≡ k = some_same m k e in sym q ∙ as_many),
+          (λ o l. get_or_append_left (listed m f_at) (drop n s.colours) 0 o (omega arith) ∙ get_or_listed f_at m o 0 (omega arith)
+              ∙ ap (λ (z : L). digit (K.colour z)) (all_zeros none (output_of c o) (outputs_made bytes passes o l))),
+        );
         finished = tied.finished;
         sent_room = tied.sent_room;
         marks_long = tied.marks_long;

@@ -1,13 +1,11 @@
 -- How a settlement begins and ends. Assumes nothing.
-use Rattle.std.proofs.Common.{◌≡◌, ℕ, suc, ◌+◌, ◌^◌, ◌<◌, ◌≤◌, ◌||◌, Bool, true, false, not, cond, nat_lt, List, [], ◌∷◌, length, Some, None, Option, refl, ap, ◌∙◌, sym, subst, arith}
+use Rattle.std.proofs.Common.{◌≡◌, ℕ, suc, ◌^◌, ◌<◌, ◌≤◌, Bool, true, false, cond, nat_lt, List, length, Some, None, Option, refl, ap, ◌∙◌, sym, subst, arith}
 use Rattle.std.proofs.lemmas.Bool.{lt-ltb}
 use Rattle.labels.specs.Kind.{Kind}
-use Rattle.hashes.specs.Count.{counted}
 use Rattle.hashes.specs.Draws.{offset, input_zero}
 use Rattle.circuit.specs.Check.{circuit_refusal}
-use Rattle.circuit.specs.Gates.{wires_in}
 use Rattle.circuit.specs.Parts.{parts_of}
-use Rattle.circuit.specs.Refusals.{first_of, or_else}
+use Rattle.circuit.specs.Refusals.{or_else}
 use Rattle.circuit.specs.declared.refusal.Refusal.{Refusal}
 use Rattle.circuit.proofs.Checks.{or_else_none, only_none}
 use Rattle.circuit.proofs.GateParts.{made_within}

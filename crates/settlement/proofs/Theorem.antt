@@ -83,7 +83,6 @@ module _ {L : Type 0} (K : Kind L) (r : Settlement L) (n : ℕ) (ran : Ran K r n
       let below : w < (r.at k).garbler.made = grind (arith, nat_tests) in
       evaluator_label k l w em ∙ ap₂ (λ z d. K.xor z (times K (bit_of r k w) d)) (sym (tied.zeros w below)) (sym tied.offset_is)
 
-
   pub garbler_count_claim : (k : ℕ) → k ≤ n → (r.at k).garbler_count ≡ counted r.garbler_came (garbler_sum r k)
   garbler_count_claim zero l = ran.begun.garbler_count
   garbler_count_claim (suc k) l = garbler_counts K F F r.circuit ran.begun.passes (r.at k) (line_at r.lines k).answer (r.at (suc k)) r.garbler_came (garbler_sum r k) (call_at r.calls k) (step_at k (omega arith)) (garbler_count_claim k (omega arith))

@@ -64,7 +64,7 @@ digit_is true = refl
 digit_is false = refl
 
 module _ {L : Type 0} (K : Kind L) (F : L → ℕ → L) (bytes : List ℕ) (seed : L) (passes : circuit_refusal bytes ≡ None) (coloured : K.colour (offset F seed K) ≡ true)
-  (s : State L) (x : ℕ → Bool) (tied : Tied K F bytes seed s x) where
+    (s : State L) (x : ℕ → Bool) (tied : Tied K F bytes seed s x) where
   abbrev d : Parts
   d = parts_of bytes
 
@@ -96,11 +96,11 @@ module _ {L : Type 0} (K : Kind L) (F : L → ℕ → L) (bytes : List ℕ) (see
       let as_many = length_listed f_at m in
       let few = shown.0 in
       let colour : slice_index (colours_by s.shown s.colours) o ≡ digit (K.colour (zero_label K F seed d (output_of d o))) =
-          ap (λ (p : Option ℕ). slice_index (colours_by p s.colours) o) q.1 ∙ get_or-take q.0 s.colours o 0 (omega arith) ∙ shown.1 o l
+      ap (λ (p : Option ℕ). slice_index (colours_by p s.colours) o) q.1 ∙ get_or-take q.0 s.colours o 0 (omega arith) ∙ shown.1 o l
       in
       let label : K.colour (places K s.labels (word_at (parts_of (open_copy bytes)).outputs o)) ≡ differs (K.colour (zero_label K F seed d (output_of d o))) (plain_bit d x (output_of d o)) =
-          ap (λ (xs : List ℕ). K.colour (places K s.labels (word_at xs o))) list ∙ ap K.colour (tied.evaluated all (output_of d o) (omega arith))
-          ∙ colour_of_bit K (zero_label K F seed d (output_of d o)) (offset F seed K) (plain_bit d x (output_of d o)) coloured
+      ap (λ (xs : List ℕ). K.colour (places K s.labels (word_at xs o))) list ∙ ap K.colour (tied.evaluated all (output_of d o) (omega arith))
+      ∙ colour_of_bit K (zero_label K F seed d (output_of d o)) (offset F seed K) (plain_bit d x (output_of d o)) coloured
       in
       get_or_append_left (listed m f_at) (drop n s.outputs) 0 o (omega arith) ∙ get_or_listed f_at m o 0 (omega arith)
       ∙ ap₂ (λ (b : Bool) (k : ℕ). digit (differs b (eqb k 1))) label colour

@@ -13,8 +13,8 @@ ghost use Rattle.settlement.specs.declared.past.Past.{Past};
 ghost use Rattle.settlement.specs.State.{state_of};
 ghost use Rattle.settlement.specs.Made.{Made, SameLoans};
 
-use crate::lent::Lent;
 use crate::inputs::label_or_zero;
+use crate::lent::Lent;
 use crate::line::Answer;
 use crate::past::Past;
 use circuit::check::read;

@@ -1,4 +1,4 @@
-use Rattle.std.proofs.Common.{◌≡◌, ℕ, length, take, min, refl, ap, ◌∙◌}
+use Rattle.std.proofs.Common.{ℕ, length, take, min, refl, ap, ◌∙◌}
 use Rattle.settlement.specs.State.{state_of}
 use Rattle.settlement.proofs.Lending.{part_same}
 use Rattle.settlement.proofs.Answering.{evaluate_accepted, evaluate_refused}

@@ -1,9 +1,8 @@
-use Rattle.std.proofs.Common.{◌≡◌, ◌≤◌, ◌<◌, ◌+◌, ℕ, List, length, drop, take, refl, ap, ◌∙◌, subst, arith}
+use Rattle.std.proofs.Common.{◌≡◌, ◌<◌, List, length, drop, refl, ap, ◌∙◌, arith}
 use Rattle.std.proofs.lemmas.List.{drop-set-lt}
 use Rattle.settlement.specs.State.{no_past, state_of}
 use Rattle.settlement.specs.Lines.{call_at}
 use Rattle.settlement.specs.declared.line.Line.{Line}
-use Rattle.settlement.specs.Followed.{Followed}
 use Rattle.settlement.proofs.Running.{followed_none, followed_more, step_with, sent_long, loans_then}
 use Rattle.settlement.proofs.run.run.Goals as goal
 

@@ -1,5 +1,4 @@
-use Rattle.std.proofs.Common.{◌≡◌, ℕ, arith}
-use Rattle.circuit.specs.Gates.{output_of}
+use Rattle.std.proofs.Common.{arith}
 use Rattle.circuit.specs.Lent.{parts_in}
 use Rattle.parties.proofs.Decided.{output_there}
 use Rattle.parties.proofs.progress.Progress.may_output.Goals as goal

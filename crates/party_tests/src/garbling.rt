@@ -111,6 +111,19 @@ impl Garbling {
             .map_err(Refusal::number)
     }
 
+    pub fn certify(
+        &self,
+        circuit: &[u8],
+        wires: usize,
+        output: usize,
+        label: Paper,
+    ) -> Result<bool, u8> {
+        let wires = &self.lent.wires[..wires.min(8)];
+        self.side
+            .certify(circuit, wires, output, label)
+            .map_err(Refusal::number)
+    }
+
     // Ends the side, or hands the token back.
     pub fn wipe(&mut self, token: GarblerToken, wires: usize) -> Result<(), (u8, GarblerToken)> {
         let mut lent = self.lent;

@@ -8,14 +8,14 @@ mod circuits;
 #[cfg(test)]
 mod dividends;
 #[cfg(test)]
+mod each_gate;
+#[cfg(test)]
 mod evaluating;
 #[cfg(test)]
 mod exchanged;
 pub mod flat;
 #[cfg(test)]
 mod garbling;
-#[cfg(test)]
-mod gates;
 #[cfg(test)]
 mod inputs;
 #[cfg(test)]

@@ -15,7 +15,7 @@ fn certify(rt: HostRuntime) -> Result<(), Fail> {
     let token = garbling.begin(c)?;
     assert_eq!(rt; garbling.certify(c, 8, 0, zero), Err(9));
     assert_eq!(rt; garbling.next(c), Ok(36));
-    assert_eq!(rt; garbling.certify(&c[..9], 0, 2, zero), Err(1));
+    assert_eq!(rt; garbling.certify(&[0; 9], 0, 2, zero), Err(1));
     for (wires, output, word, answer) in [
         (3, 0, 0xAAF1, Ok(false)),
         (3, 0, 0x5CF0, Ok(true)),

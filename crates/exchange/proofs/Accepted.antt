@@ -1,4 +1,4 @@
--- No call of a run is refused. Assumes nothing.
+-- No call of a whole settlement is refused. Assumes nothing.
 use Rattle.std.proofs.Common.{◌≡◌, ℕ, suc, ◌+◌, ◌*◌, ◌<◌, ◌≤◌, Bool, true, false, not, ◌&&◌, ◌||◌, eqb, leb, ltb, List, [], ◌∷◌, length, get_or, Some, None, Ok, Err, Option, Result, IfErr, sym, refl, ap, ◌∙◌, ap₂, arith}
 use Rattle.std.specs.Result.{IsOk}
 use Rattle.std.specs.Prelude.{cond}
@@ -18,17 +18,11 @@ use Rattle.parties.specs.declared.state.State.TheVariants.{Collecting, Evaluatin
 use Rattle.parties.specs.declared.state.Call.TheVariants.{Deliver, Evaluate, Decode}
 use Rattle.parties.specs.Side.{unused}
 use Rattle.parties.specs.Marks.{is_marked, all_marked}
-use Rattle.parties.specs.Turns.{is_its}
+use Rattle.parties.specs.Turns.{is_its, gates_left}
 use Rattle.parties.specs.States.{allowed}
-use Rattle.parties.specs.Refusing.{turn_refusal, encode_refusal, deliver_refusal, garble_refusal, evaluate_refusal, colours_refusal, decode_refusal, join_refusal}
-use Rattle.exchange.specs.Course.{marks_below, reached}
-use Rattle.exchange.proofs.Marks.{unmarked, all_below_marked}
-use Rattle.exchange.proofs.Reached.{its}
-
--- a call that has no refusal is accepted
-pub accepted : {T : Type 0} (r : Result T Refusal) (o : Option Refusal) → o ≡ None → IfErr r (λ why. o ≡ Some why) → IsOk r
-accepted (Ok x) o p h = refl
-accepted (Err why) o p h = let no : Some why ≡ None = sym h ∙ p in cc
+use Rattle.parties.specs.Refusing.{turn_refusal, encode_refusal, deliver_refusal, garble_refusal, evaluate_refusal, colours_refusal, decode_refusal, output_refusal}
+use Rattle.exchange.proofs.Marks.{marks_below, unmarked, all_below_marked}
+use Rattle.exchange.proofs.Reached.{reached, its}
 
 -- tests that are not met, behind a place that does not refuse
 one : (o : Option Refusal) (a : Bool) (x : Refusal) → o ≡ None → a ≡ false → or_else o (first_of ((a, x) ∷ [])) ≡ None
@@ -66,12 +60,6 @@ module _ {L : Type 0} (K : Kind L) (bytes : List ℕ) (passes : circuit_refusal 
   in_turn n g turn t =
       let own = its K c n g in
       one (circuit_refusal bytes) (not (turn && is_its (reached K c n g) c)) Turn passes (untrue (turn && is_its (reached K c n g) c) (ap₂ (λ (a b : Bool). a && b) t own))
-
-  begins : (w : ℕ) → wires_in c ≤ w → or_else (circuit_refusal bytes) (first_of ((not true, Turn) ∷ (ltb w (wires_in c), Memory) ∷ [])) ≡ None
-  begins w room = two (circuit_refusal bytes) (not true) (ltb w (wires_in c)) Turn Memory passes refl (le-ltb w (wires_in c) room)
-
-  pub join_passes : (s : Side) (w : ℕ) → s ≡ unused → wires_in c ≤ w → join_refusal s bytes w ≡ None
-  join_passes s w e room = ap (λ (z : Side). join_refusal z bytes w) e ∙ begins w room
 
   module _ (n w bit : ℕ) (there : n < c.sizes.inputs) (few : c.sizes.inputs ≤ 256) (room : wires_in c ≤ w) where
     input_tests : (o : Option Refusal) → bit < 2 → o ≡ None
@@ -132,3 +120,11 @@ module _ {L : Type 0} (K : Kind L) (bytes : List ℕ) (passes : circuit_refusal 
       (output_tests w (length colours) room count _
       (in_turn c.sizes.inputs c.sizes.gates _ (decodes _ _ (all_below_marked c.sizes.inputs few) (none_left w (length colours) room count))))
       (untrue _ (eq-eqb _ _ long)) (untrue _ small)
+
+  -- but for its label
+  pub certify_passes : (w k : ℕ) → k < c.sizes.outputs → wires_in c ≤ w → (n : ℕ) (s : Side) → s ≡ reached K c n c.sizes.gates
+      → output_refusal s bytes (not s.ended && not (gates_left s)) w k ≡ None
+  certify_passes w k there room n s e =
+      let left : ltb c.sizes.gates c.sizes.gates ≡ false = le-ltb c.sizes.gates c.sizes.gates (omega arith) in
+      ap (λ (z : Side). output_refusal z bytes (not z.ended && not (gates_left z)) w k) e
+      ∙ two _ (ltb w (wires_in c)) (leb c.sizes.outputs k) Memory Number (in_turn n c.sizes.gates _ (rw left refl)) (le-ltb w (wires_in c) room) (lt-leb c.sizes.outputs k there)

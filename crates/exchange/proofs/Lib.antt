@@ -1,9 +1,10 @@
-pub mod Marks
-pub mod Reached
-pub mod Accepted
-pub mod Carried
-pub mod Copies
-pub mod Gates
-pub mod Turns
-pub mod Decoding
-pub mod Runs
+mod Marks
+mod Reached
+mod Copies
+mod Colours
+mod Accepted
+mod Turns
+mod Stages
+mod Phases
+mod Done
+mod Settled

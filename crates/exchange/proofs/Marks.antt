@@ -1,11 +1,15 @@
 -- The marks of the first inputs. Assumes nothing.
-use Rattle.std.proofs.Common.{◌≡◌, ◌≢◌, ℕ, zero, suc, ◌<◌, ◌≤◌, true, false, length, replicate, sym, refl, ◌∙◌, subst, inl, inr, arith}
+use Rattle.std.proofs.Common.{◌≡◌, ◌≢◌, ℕ, zero, suc, ◌<◌, ◌≤◌, Bool, true, false, List, length, replicate, sym, refl, ◌∙◌, subst, inl, inr, arith}
 use Rattle.std.specs.Prelude.{slice_set}
 use Rattle.std.proofs.lemmas.Bool.{cases_eq}
 use Rattle.std.proofs.lemmas.List.{length-set, length-replicate, get_or-replicate, get_or-set_same, get_or-set_other}
 use Rattle.parties.specs.Marks.{is_marked, all_marked}
 use Rattle.parties.proofs.Marking.{marked_all}
-use Rattle.exchange.specs.Course.{marks_below}
+
+-- the marks once the first n inputs are encoded or delivered
+unfoldable pub marks_below : ℕ → List Bool
+marks_below zero = replicate 256 false
+marks_below (suc n) = slice_set (marks_below n) n true
 
 pub marks_none : replicate 256 false ≡ marks_below 0
 unfolding marks_below
@@ -27,7 +31,7 @@ unmarked zero k h l = get_or-replicate 256 k false false l
 unmarked (suc n) k h l = let ne : k ≢ n = omega arith in get_or-set_other (marks_below n) n k true false ne ∙ unmarked n k (omega arith) l
 
 -- and each before is
-is_below : (n k : ℕ) → n ≤ 256 → k < n → is_marked (marks_below n) k ≡ true
+pub is_below : (n k : ℕ) → n ≤ 256 → k < n → is_marked (marks_below n) k ≡ true
 unfolding marks_below
 is_below zero k m h = absurd (omega arith)
 is_below (suc n) k m h =

@@ -1,4 +1,4 @@
--- One step further. Assumes nothing.
+-- How far a side of a circuit has come. Assumes nothing.
 use Rattle.std.proofs.Common.{◌≡◌, ℕ, suc, ◌+◌, ◌*◌, Bool, true, false, eqb, List, refl, ap, ◌∙◌, ap₂, add-one, arith}
 use Rattle.std.proofs.lemmas.Bool.{eq-eqb}
 use Rattle.labels.specs.Kind.{Kind}
@@ -10,8 +10,19 @@ use Rattle.circuit.specs.Check.{bytes_in}
 use Rattle.parties.specs.declared.side.Side.{Side}
 use Rattle.parties.specs.Side.{started, marked, stepped}
 use Rattle.parties.specs.Turns.{is_its}
-use Rattle.exchange.specs.Course.{marks_below, reached}
-use Rattle.exchange.proofs.Marks.{marks_none, marks_next}
+use Rattle.exchange.proofs.Marks.{marks_below, marks_none, marks_next}
+
+-- a side once the first n inputs are encoded or delivered and the gates below g are made
+abbrev pub reached : {L : Type 0} → Kind L → Parts → ℕ → ℕ → Side
+reached K c n g = record {
+  ended = false;
+  sizes = c.sizes;
+  wires = wires_in c;
+  next = g;
+  made = made_before c g;
+  bytes = bytes_in K c g;
+  marks = marks_below n;
+}
 
 same_self : (n : ℕ) → eqb n n ≡ true
 same_self n = eq-eqb n n refl

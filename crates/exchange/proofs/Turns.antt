@@ -1,64 +1,121 @@
--- What an accepted garble and an accepted evaluate leave. Assumes nothing.
-use Rattle.std.proofs.Common.{◌≡◌, ℕ, suc, ◌*◌, ◌<◌, ◌≤◌, Bool, List, length, take, refl, ap, ◌∙◌, subst, arith}
-use Rattle.labels.specs.Kind.{Kind}
-use Rattle.hashes.specs.Draws.{offset}
-use Rattle.wires.proofs.Made.{rises}
-use Rattle.circuit.specs.Parts.{Parts}
-use Rattle.circuit.specs.Gates.{form_of, made_before}
-use Rattle.circuit.specs.Material.{gate_bytes}
-use Rattle.circuit.specs.Check.{bytes_in}
-use Rattle.gates.specs.Bytes.{part}
-use Rattle.steps.specs.Whole.{zero_label, material_before, label}
-use Rattle.parties.specs.declared.side.Side.{Side}
-use Rattle.garbler.specs.Garbling.{Garbled}
-use Rattle.evaluator.specs.Evaluating.{Stepped}
-use Rattle.laws.specs.Ordered.{Ordered}
-use Rattle.laws.specs.Opened.{opened}
-use Rattle.exchange.specs.Course.{reached}
-use Rattle.exchange.specs.Held.{Carry}
-use Rattle.exchange.proofs.Reached.{steps_on}
-use Rattle.exchange.proofs.Gates.{zeros_on, material_on, labels_on, part_of, bytes_rise}
+-- What each call of a whole settlement does. Assumes nothing.
+use Rattle.std.proofs.Common.{◌≡◌, ℕ, suc, ◌+◌, ◌*◌, ◌-◌, ◌<◌, ◌≤◌, Bool, true, false, cond, eqb, ltb, List, get_or, refl, sym, ap, ◌∙◌, subst, inl, inr, arith}
+use Rattle.std.proofs.lemmas.Bool.{cases_eq, cases_lt, lt-ltb, le-ltb, eq-eqb, ne_eqb}
+use Rattle.circuit.specs.declared.sizes.Sizes.{Sizes}
+use Rattle.settlement.specs.Claims.{noted}
+use Rattle.settlement.specs.declared.call.Call.TheVariants.{Garble, Encode, Deliver, Evaluate, Colours, Decode, Certify}
+use Rattle.exchange.specs.Course.{calls_in, by_turn, course}
 
-module _ {L : Type 0} (K : Kind L) (F : L → ℕ → L) (seed : L) (c : Parts) where
-  -- the garbler is a gate further
-  pub record GarbledTo (n g : ℕ) (side : Side) (old new : List L) (material written : List ℕ) : Type 0 where
-    pub side_is : side ≡ reached K c n g
-    pub zeros : Carry K (made_before c g) (zero_label K F seed c) new
-    pub long : length new ≡ length old
-    pub front : take (bytes_in K c g) written ≡ material_before K F seed c g
-    pub material_long : length written ≡ length material
+module _ (s : Sizes) {X : Type 0} (encode deliver garble evaluate : ℕ → X) (colours decode : X) (certify : ℕ → X) where
+  abbrev turn : ℕ → X
+  turn k = by_turn s k encode deliver garble evaluate colours decode certify
 
-  module _ (ordered : Ordered c) (n g : ℕ) (there : g < c.sizes.gates) where
-    pub garbled_on : (H : L → ℕ → L) (kept Δ : L) (s t : Side) (bits : ℕ) (old new : List L) (material written : List ℕ) (scratch cleared : List L)
-        → H ≡ F → kept ≡ seed → Δ ≡ offset F seed K → s ≡ reached K c n g
-        → Carry K (made_before c g) (zero_label K F seed c) old → length material ≡ bytes_in K c c.sizes.gates → take (bytes_in K c g) material ≡ material_before K F seed c g
-        → Garbled K H c kept Δ s t bits old new material written scratch cleared
-        → GarbledTo n (suc g) t old new material written
-    garbled_on H kept Δ s t bits old new material written scratch cleared eH es eΔ e a long front d =
-        let d1 = subst (λ (z : Side). Garbled K H c kept Δ z t bits old new material written scratch cleared) e d in
-        let d2 = subst (λ (z : L). Garbled K H c kept z (reached K c n g) t bits old new material written scratch cleared) eΔ d1 in
-        let d3 = subst (λ (z : L). Garbled K H c z (offset F seed K) (reached K c n g) t bits old new material written scratch cleared) es d2 in
-        let d4 = subst (λ (z : L → ℕ → L). Garbled K z c seed (offset F seed K) (reached K c n g) t bits old new material written scratch cleared) eH d3 in
-        let up : bytes_in K c (suc g) ≤ bytes_in K c c.sizes.gates = rises (bytes_in K c) (bytes_rise K c) (suc g) c.sizes.gates there in
-        let m = material_on K F seed c ordered g old material written there a (omega arith) front d4.material_is in
-        record {
-          side_is = steps_on K c n g (reached K c n g) t refl d4.side_is;
-          zeros = zeros_on K F seed c ordered g old new there a d4.wires;
-          long = d4.wires.long;
-          front = m.0;
-          material_long = m.1;
-        }
+  pub at_encode : (i : ℕ) → i < s.inputs → turn i ≡ encode i
+  unfolding by_turn
+  at_encode i h = let a = lt-ltb i s.inputs h in rw a refl
 
-    -- the evaluator of the open copy is a gate further
-    pub stepped_on : (x : ℕ → Bool) (copy : Parts) (H : L → ℕ → L) (s t : Side) (old new : List L) (material : List ℕ) (scratch cleared : List L)
-        → copy ≡ opened c → H ≡ F → s ≡ reached K copy n g
-        → Carry K (made_before c g) (label K F seed c x) old → material ≡ material_before K F seed c c.sizes.gates
-        → Stepped K copy H s t old new material scratch cleared
-        → Carry K (made_before c (suc g)) (label K F seed c x) new
-    stepped_on x copy H s t old new material scratch cleared ec eH e a em d =
-        let d1 = subst (λ (z : Side). Stepped K copy H z t old new material scratch cleared) e d in
-        let d2 = subst (λ (z : L → ℕ → L). Stepped K copy z (reached K copy n g) t old new material scratch cleared) eH d1 in
-        let d3 = subst (λ (q : Parts). Stepped K q F (reached K q n g) t old new material scratch cleared) ec d2 in
-        labels_on K F seed c ordered x g old new _ there a
-        (ap (part (bytes_in K c g) (gate_bytes (8 * K.width) (form_of c g))) em ∙ part_of K F seed c ordered c.sizes.gates g there)
-        d3.wires
+  pub at_deliver : (i : ℕ) → i < s.inputs → turn (s.inputs + i) ≡ deliver i
+  unfolding by_turn
+  at_deliver i h =
+      let a : ltb (s.inputs + i) s.inputs ≡ false = le-ltb (s.inputs + i) s.inputs (omega arith) in
+      let b : ltb (s.inputs + i) (2 * s.inputs) ≡ true = lt-ltb (s.inputs + i) (2 * s.inputs) (omega arith) in
+      let d : s.inputs + i - s.inputs ≡ i = omega arith in
+      rw (a, b, d) refl
+
+  pub at_garble : (g : ℕ) → g < s.gates → turn (2 * s.inputs + g) ≡ garble g
+  unfolding by_turn
+  at_garble g h =
+      let a : ltb (2 * s.inputs + g) s.inputs ≡ false = le-ltb (2 * s.inputs + g) s.inputs (omega arith) in
+      let b : ltb (2 * s.inputs + g) (2 * s.inputs) ≡ false = le-ltb (2 * s.inputs + g) (2 * s.inputs) (omega arith) in
+      let d : ltb (2 * s.inputs + g) (2 * s.inputs + s.gates) ≡ true = lt-ltb (2 * s.inputs + g) (2 * s.inputs + s.gates) (omega arith) in
+      let e : 2 * s.inputs + g - 2 * s.inputs ≡ g = omega arith in
+      rw (a, b, d, e) refl
+
+  pub at_evaluate : (g : ℕ) → g < s.gates → turn (2 * s.inputs + s.gates + g) ≡ evaluate g
+  unfolding by_turn
+  at_evaluate g h =
+      let k : ℕ = 2 * s.inputs + s.gates + g in
+      let a : ltb k s.inputs ≡ false = le-ltb k s.inputs (omega arith) in
+      let b : ltb k (2 * s.inputs) ≡ false = le-ltb k (2 * s.inputs) (omega arith) in
+      let d : ltb k (2 * s.inputs + s.gates) ≡ false = le-ltb k (2 * s.inputs + s.gates) (omega arith) in
+      let e : ltb k (2 * s.inputs + 2 * s.gates) ≡ true = lt-ltb k (2 * s.inputs + 2 * s.gates) (omega arith) in
+      let f : k - (2 * s.inputs + s.gates) ≡ g = omega arith in
+      rw (a, b, d, e, f) refl
+
+  -- past the gates
+  abbrev last : ℕ
+  last = 2 * s.inputs + 2 * s.gates
+
+  past : (k : ℕ) → last ≤ k → turn k ≡ cond (eqb k last) colours (cond (eqb k (last + 1)) decode (certify (k - (last + 2))))
+  unfolding by_turn
+  past k h =
+      let a : ltb k s.inputs ≡ false = le-ltb k s.inputs (omega arith) in
+      let b : ltb k (2 * s.inputs) ≡ false = le-ltb k (2 * s.inputs) (omega arith) in
+      let d : ltb k (2 * s.inputs + s.gates) ≡ false = le-ltb k (2 * s.inputs + s.gates) (omega arith) in
+      let e : ltb k (2 * s.inputs + 2 * s.gates) ≡ false = le-ltb k (2 * s.inputs + 2 * s.gates) h in
+      rw (a, b, d, e) refl
+
+  pub at_colours : turn last ≡ colours
+  at_colours = past last (omega arith) ∙ ap (λ (q : Bool). cond q colours (cond (eqb last (last + 1)) decode (certify (last - (last + 2))))) (eq-eqb last last refl)
+
+  pub at_decode : turn (last + 1) ≡ decode
+  at_decode =
+      let k : ℕ = last + 1 in
+      past k (omega arith)
+      ∙ ap (λ (q : Bool). cond q colours (cond (eqb k k) decode (certify (k - (last + 2))))) (ne_eqb k last (λ e. absurd (omega arith)))
+      ∙ ap (λ (q : Bool). cond q decode (certify (k - (last + 2)))) (eq-eqb k k refl)
+
+  pub at_certify : (o : ℕ) → turn (last + 2 + o) ≡ certify o
+  at_certify o =
+      let k : ℕ = last + 2 + o in
+      let e : k - (last + 2) ≡ o = omega arith in
+      past k (omega arith)
+      ∙ ap (λ (q : Bool). cond q colours (cond (eqb k (last + 1)) decode (certify (k - (last + 2))))) (ne_eqb k last (λ e. absurd (omega arith)))
+      ∙ ap (λ (q : Bool). cond q decode (certify (k - (last + 2)))) (ne_eqb k (last + 1) (λ e. absurd (omega arith)))
+      ∙ ap certify e
+
+-- what holds of each holds of all
+module _ (s : Sizes) (P : ℕ → Type 0) (encode : (i : ℕ) → i < s.inputs → P i) (deliver : (i : ℕ) → i < s.inputs → P (s.inputs + i)) (garble : (g : ℕ) → g < s.gates → P (2 * s.inputs + g))
+    (evaluate : (g : ℕ) → g < s.gates → P (2 * s.inputs + s.gates + g)) (colours : P (2 * s.inputs + 2 * s.gates)) (decode : P (2 * s.inputs + 2 * s.gates + 1))
+    (certify : (o : ℕ) → o < s.outputs → P (2 * s.inputs + 2 * s.gates + 2 + o)) where
+  from : (base m k : ℕ) → ((i : ℕ) → i < m → P (base + i)) → base ≤ k → k < base + m → P k
+  from base m k p low high = subst P (let e : base + (k - base) ≡ k = omega arith in e) (p (k - base) (omega arith))
+
+  pub each_turn : (k : ℕ) → k < calls_in s → P k
+  each_turn k l =
+      elim (cases_lt k s.inputs) [
+        | inl a ↦ encode k a
+        | inr a ↦ elim (cases_lt k (s.inputs + s.inputs)) [
+          | inl b ↦ from s.inputs s.inputs k deliver a b
+          | inr b ↦ elim (cases_lt k (2 * s.inputs + s.gates)) [
+            | inl d ↦ from (2 * s.inputs) s.gates k garble (omega arith) d
+            | inr d ↦ elim (cases_lt k (2 * s.inputs + s.gates + s.gates)) [
+              | inl e ↦ from (2 * s.inputs + s.gates) s.gates k evaluate d e
+              | inr e ↦ elim (cases_eq k (2 * s.inputs + 2 * s.gates)) [
+                | inl f ↦ subst P (sym f) colours
+                | inr f ↦ elim (cases_eq k (2 * s.inputs + 2 * s.gates + 1)) [
+                  | inl g ↦ subst P (sym g) decode
+                  | inr g ↦ from (2 * s.inputs + 2 * s.gates + 2) s.outputs k certify (omega arith) (omega arith)
+                ]
+              ]
+            ]
+          ]
+        ]
+      ]
+
+-- past the inputs none is an encode
+one_of : (x y z v u : Bool) (a b d e f h i : ℕ) (q : Bool) (w : ℕ → Bool) → noted (cond x (Deliver a) (cond y (Garble b d) (cond z (Evaluate e) (cond v (Colours f) (cond u (Decode h) (Certify i)))))) q w ≡ w
+one_of true y z v u a b d e f h i q w = refl
+one_of false true z v u a b d e f h i q w = refl
+one_of false false true v u a b d e f h i q w = refl
+one_of false false false true u a b d e f h i q w = refl
+one_of false false false false true a b d e f h i q w = refl
+one_of false false false false false a b d e f h i q w = refl
+
+pub unnoted : (s : Sizes) (material : ℕ) (bits : List ℕ) (k : ℕ) (q : Bool) (w : ℕ → Bool) → s.inputs ≤ k → noted (course s material bits k) q w ≡ w
+unfolding by_turn
+unnoted s material bits k q w l =
+    let a = le-ltb k s.inputs l in
+    ap (λ (b : Bool). noted (cond b (Encode k (get_or bits k 0)) (cond (ltb k (2 * s.inputs)) (Deliver (k - s.inputs)) (cond (ltb k (2 * s.inputs + s.gates)) (Garble 256 material) (cond (ltb k (2 * s.inputs + 2 * s.gates)) (Evaluate 256)
+    (cond (eqb k (2 * s.inputs + 2 * s.gates)) (Colours s.outputs) (cond (eqb k (2 * s.inputs + 2 * s.gates + 1)) (Decode s.outputs) (Certify (k - (2 * s.inputs + 2 * s.gates + 2))))))))) q w) a
+    ∙ one_of _ _ _ _ _ _ _ _ _ _ _ _ q w

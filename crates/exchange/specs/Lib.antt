@@ -1,3 +1,4 @@
 pub mod Course
-pub mod Held
-pub mod Copied
+pub mod Planned
+pub mod Outcome
+pub mod Furnished

@@ -1,9 +1,6 @@
-// Both sides run one circuit: input bits go in as labels, every gate is garbled and evaluated, and output bits come out.
+// A whole settlement of a circuit: every input, every gate, and every output.
 #![tactic(auto)]
 
-pub mod evaluating;
-pub mod garbling;
-pub mod inputs;
-pub mod outputs;
-pub mod sides;
+mod calls;
+pub mod room;
 pub mod whole;

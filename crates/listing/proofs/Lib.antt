@@ -1,6 +1,5 @@
 pub mod Steps
 pub mod Inputs
-pub mod Works
-pub mod Papers
 pub mod Sheets
-pub mod Copying
+pub mod Plans
+pub mod Dividends

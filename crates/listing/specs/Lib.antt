@@ -3,4 +3,5 @@ pub mod Hex
 pub mod Sheet
 pub mod Worksheet
 pub mod Work
+pub mod Calls
 pub mod Dividend

@@ -1,21 +1,19 @@
 -- The worksheet: its input, its first refusal and its text. Assumes nothing.
 use Rattle.std.specs.Prelude.{ℕ, ◌+◌, ◌*◌, not, List, [], ◌∷◌, ◌++◌, length, take, drop, Some, None, Option, ◌==◌, nat_lt, slice_index}
+use Rattle.labels.specs.Numbers.{digit}
 use Rattle.labels.specs.Papers.{paper}
 use Rattle.labels.specs.declared.paper.Paper.{Paper}
 use Rattle.hashes.specs.Draws.{offset}
 use Rattle.hashes.specs.PaperHash.{paper_hash}
 use Rattle.circuit.specs.Refusals.{first_of, or_else}
-use Rattle.circuit.specs.Words.{all_below}
 use Rattle.circuit.specs.Header.{sizes_of, within, words_in}
 use Rattle.circuit.specs.Parts.{parts_of}
-use Rattle.circuit.specs.Gates.{wires_in}
-use Rattle.circuit.specs.Check.{circuit_refusal}
+use Rattle.circuit.specs.Gates.{output_of, wires_in}
 use Rattle.circuit.specs.declared.refusal.Refusal.{Refusal}
-use Rattle.circuit.specs.declared.refusal.Refusal.TheVariants.{Short, Size, Length, Bit, ZeroSeed}
+use Rattle.circuit.specs.declared.refusal.Refusal.TheVariants.{Short, Size, Length}
 use Rattle.plain.specs.Plain.{bit_in, plain_bit}
-use Rattle.memory.specs.Seed.{blank}
 use Rattle.steps.specs.Whole.{zero_label, label, material_before}
-use Rattle.exchange.specs.Held.{decoded_bit}
+use Rattle.exchange.specs.Planned.{whole_refusal}
 use Rattle.listing.specs.Lines.{out_line, refused_line}
 use Rattle.listing.specs.Sheet.{offset_line, label_lines, material_line}
 
@@ -36,7 +34,11 @@ module _ (bytes seed bits : List ℕ) where
       offset_line (offset paper_hash (paper.from seed) paper)
       ++ (label_lines zero_on label_on (plain_bit (parts_of bytes) (bit_in bits)) (wires_in (parts_of bytes))
       ++ (material_line (λ k. slice_index all_material k) (length all_material)
-      ++ out_line (decoded_bit paper (parts_of bytes) zero_on label_on) (parts_of bytes).sizes.outputs))
+      ++ out_line (λ o. digit (plain_bit (parts_of bytes) (bit_in bits) (output_of (parts_of bytes) o))) (parts_of bytes).sizes.outputs))
+
+  abbrev pub text_unless : Option Refusal → List ℕ
+  text_unless (Some why) = refused_line why
+  text_unless None = sheet_of
 
 module _ (input : List ℕ) where
   -- the circuit ends where its sizes say; two seed bytes and a byte for each input follow
@@ -62,16 +64,7 @@ module _ (input : List ℕ) where
 
   -- then the circuit, then the bits, and then the seed
   abbrev pub worksheet_refusal : Option Refusal
-  worksheet_refusal =
-      or_else input_refusal
-      (or_else (circuit_refusal circuit_in)
-      (first_of ((not (all_below (λ i. slice_index bits_from i) (sizes_of input).inputs 2), Bit)
-      ∷ (blank seed_in, ZeroSeed)
-      ∷ [])))
-
-  abbrev pub text_or : Option Refusal → List ℕ
-  text_or (Some why) = refused_line why
-  text_or None = sheet_of circuit_in seed_in bits_from
+  worksheet_refusal = or_else input_refusal (whole_refusal paper paper_hash circuit_in seed_in bits_from)
 
   abbrev pub worksheet_text : List ℕ
-  worksheet_text = text_or worksheet_refusal
+  worksheet_text = text_unless circuit_in seed_in bits_from worksheet_refusal

@@ -1,14 +1,26 @@
-// The joint dividend of two ticket counts, in the clear.
-ghost use Rattle.std.specs.Prelude.{◌≡◌, ◌≤◌, false, ◌++◌, length, IfOk, Some, string_bytes, MatchResult, nat_eq, slice_index, slice_index_or};
+// The joint dividend of two ticket counts, by a settlement under long labels and the AES hash.
+ghost use Rattle.std.specs.Prelude.{◌≡◌, ℕ, OnOk, ◌+◌, ◌≤◌, ◌++◌, length, ◌-◌, IfOk, Some, None, string_bytes, MatchResult, nat_eq, slice_index, slice_index_or};
 ghost use Rattle.labels.specs.Numbers.{number as number_from};
-ghost use Rattle.plain.specs.Plain.{plain_refusal};
-ghost use Rattle.listing.specs.Dividend.{low_bits, count_bits, Settled, dividend_line, settle_text};
-ghost use Rattle.listing.specs.Lines.{wire_lines, out_line};
+ghost use Rattle.settlement.specs.Lines.{call_at, line_at};
+ghost use Rattle.listing.specs.Dividend.{low_bits, count_bits, sixteen_refusal, tickets_line, size_line, counts_line, dividend_line, settled_text, text_unless, settle_text};
+ghost use Rattle.labels.specs.Longs.{long};
+ghost use Rattle.hashes.specs.AesHash.{aes_hash};
+ghost use Rattle.exchange.specs.Planned.{whole_refusal};
 
-use crate::lines::{add_outputs, add_wires, refused};
+use crate::calls::add_lines;
+use crate::ending::wipe_both;
+use crate::lines::{add_outputs, refused};
 use circuit::check::read;
 use circuit::refusal::Refusal;
-use plain::run::plain;
+use evaluator::record::Evaluator;
+use exchange::room::{Room, lend};
+use exchange::whole::run;
+use garbler::record::Garbler;
+use hashes::aes_hash::AesFunction;
+use labels::long::Long;
+use settlement::call::Call;
+use settlement::lent::Lent;
+use settlement::line::Line;
 use std::alloc::{AllocError, Global};
 
 // Writes the low bits of a number, the lowest first.
@@ -43,53 +55,125 @@ fn number_of_outputs(outputs: &[u8]) -> u32
     sum
 }
 
-// Evaluates a circuit of 14 inputs and 16 outputs at two counts; of each count only the seven low bits go in.
-// Answers the number of wires and the dividend.
-pub fn joint_dividend(
-    circuit: &[u8],
-    first: u8,
-    second: u8,
-    wires: &mut [bool],
-    outputs: &mut [u8; 16],
-) -> Result<(usize, u32), Refusal>
-    ensures { MatchResult result (λ v. Settled circuit.now first second wires.old wires.new outputs.new v.0 v.1) (λ why. (plain_refusal circuit.now (count_bits first second) (length wires.old) 16 ≡ Some why) × (wires.new ≡ wires.old) × (outputs.new ≡ outputs.old)) }
+// Whether a circuit passes and has sixteen outputs.
+fn has_sixteen(circuit: &[u8]) -> Result<(), Refusal>
+    ensures { MatchResult result (λ u. sixteen_refusal circuit.now ≡ None) (λ why. sixteen_refusal circuit.now ≡ Some why) }
 {
-    let bits = input_bits(first, second);
     let c = read(circuit)?;
-    plain(circuit, &bits, wires, outputs)?;
-    Ok((usize::from(c.wires), number_of_outputs(outputs)))
+    if c.arrays.sizes.outputs != 16 {
+        return Err(Refusal::Memory);
+    }
+    Ok(())
 }
 
-// The lines of a settlement that is done, behind the text so far.
-fn settled_lines(
+// The first line.
+fn tickets(heap: Global, first: u8, second: u8) -> Result<String, AllocError>
+    ensures { IfOk result (λ t. string_bytes t ≡ tickets_line first second) }
+{
+    format!(in heap; "tickets {first} {second}\n")
+}
+
+// Adds how long the material is, and both counts of the last line.
+fn add_totals(text: &mut String, bytes: usize, last: Line<Long>) -> Result<(), AllocError>
+    ensures { OnOk result (string_bytes text.new ≡ string_bytes text.old ++ (size_line bytes ++ counts_line last.garbler_count last.evaluator_count)) }
+{
+    let garbler = last.garbler_count;
+    let evaluator = last.evaluator_count;
+    writeln!(text, "material {bytes} bytes")?;
+    writeln!(text, "counts {garbler} {evaluator}")
+}
+
+// Adds the dividend's line.
+fn add_dividend(text: &mut String, outputs: &[u8]) -> Result<(), AllocError>
+    requires { length outputs.now ≡ 16 }
+    ensures { OnOk result (string_bytes text.new ≡ string_bytes text.old ++ dividend_line (number_from 16 (λ o. nat_eq (slice_index outputs.now o) 1))) }
+{
+    let dividend = number_of_outputs(outputs);
+    writeln!(text, "dividend {dividend}")
+}
+
+// The text of a settlement that is done.
+fn lines_of(
     head: String,
-    wires: &[bool],
-    outputs: &[u8],
-    dividend: u32,
+    lent: &Lent<Long>,
+    calls: &[Call],
+    lines: &[Line<Long>],
 ) -> Result<String, AllocError>
-    ensures { IfOk result (λ t. string_bytes t ≡ string_bytes head ++ (wire_lines (λ w. slice_index_or wires.now w false) (length wires.now) ++ (out_line (λ k. slice_index outputs.now k) (length outputs.now) ++ dividend_line dividend))) }
+    requires calls { length calls.now ≡ length lines.now }
+    requires some { 1 ≤ length lines.now }
+    requires outputs { length lent.now.outputs.now ≡ 16 }
+    ensures { IfOk result (λ t. (first second : ℕ) → string_bytes head ≡ tickets_line first second → string_bytes t ≡ settled_text first second (call_at calls.now) (line_at lines.now) (length calls.now) (length lent.now.material.now) (line_at lines.now (length lines.now - 1)).garbler_count (line_at lines.now (length lines.now - 1)).evaluator_count (λ o. slice_index lent.now.outputs.now o) (number_from 16 (λ o. nat_eq (slice_index lent.now.outputs.now o) 1))) }
 {
     let mut text = head;
-    add_wires(&mut text, wires)?;
-    add_outputs(&mut text, outputs)?;
-    writeln!(text, "dividend {dividend}")?;
+    let last = lines[lines.len() - 1];
+    add_lines(&mut text, calls, lines)?;
+    add_totals(&mut text, lent.material.len(), last)?;
+    add_outputs(&mut text, lent.outputs)?;
+    add_dividend(&mut text, lent.outputs)?;
     Ok(text)
 }
 
-// The text that settle prints for any circuit and any two counts.
-pub fn settle_text(
+// Runs a settlement of a circuit of sixteen outputs, writes down its lines, and then wipes both sides.
+fn settled(
     heap: Global,
     circuit: &[u8],
+    seed: &[u8],
     first: u8,
     second: u8,
 ) -> Result<String, AllocError>
-    ensures { IfOk result (λ t. string_bytes t ≡ settle_text circuit.now first second) }
+    requires { sixteen_refusal circuit.now ≡ None }
+    ensures { IfOk result (λ t. string_bytes t ≡ text_unless circuit.now seed.now first second (whole_refusal long aes_hash circuit.now seed.now (count_bits first second))) }
 {
-    let mut wires = [false; 1024];
-    let mut outputs = [0u8; 16];
-    let head = format!(in heap; "tickets {first} {second}\n")?;
-    match joint_dividend(circuit, first, second, &mut wires, &mut outputs) {
-        Ok((count, dividend)) => settled_lines(head, &wires[0..count], &outputs, dividend),
+    let bits = input_bits(first, second);
+    let head = tickets(heap, first, second)?;
+    let mut room: Room<Long> = match Room::furnish(heap, circuit, seed, &bits)? {
+        Ok(room) => room,
+        Err(why) => return refused(heap, why),
+    };
+    let mut garbler = Garbler::new();
+    let mut evaluator = Evaluator::new();
+    let mut lent = lend(
+        room.zeros.as_mut_slice(),
+        room.labels.as_mut_slice(),
+        room.sent.as_mut_slice(),
+        room.scratch.as_mut_slice(),
+        room.material.as_mut_slice(),
+        room.colours.as_mut_slice(),
+        room.outputs.as_mut_slice(),
+    );
+    let calls = room.calls.as_slice();
+    let lines = room.lines.as_mut_slice();
+    match run::<Long, AesFunction>(
+        circuit,
+        room.copy.as_mut_slice(),
+        room.seed.as_mut_slice(),
+        &mut garbler,
+        &mut evaluator,
+        &mut lent,
+        calls,
+        lines,
+    ) {
+        Ok(tokens) => {
+            let text = lines_of(head, &lent, calls, lines);
+            wipe_both(&mut garbler, &mut evaluator, tokens, &mut lent);
+            text
+        }
+        Err(why) => refused(heap, why),
+    }
+}
+
+// The text that settle prints for any circuit, any seed and any two counts; of a count only the seven low bits go in.
+pub fn settle_text(
+    heap: Global,
+    circuit: &[u8],
+    seed: &[u8],
+    first: u8,
+    second: u8,
+) -> Result<String, AllocError>
+    ensures { IfOk result (λ t. string_bytes t ≡ settle_text circuit.now seed.now first second) }
+{
+    match has_sixteen(circuit) {
+        Ok(()) => settled(heap, circuit, seed, first, second),
         Err(why) => refused(heap, why),
     }
 }

@@ -6,7 +6,7 @@ use labels::paper::Paper;
 use std::alloc::AllocError;
 
 // Adds a byte's two digits.
-fn add_byte(text: &mut String, byte: u8) -> Result<(), AllocError>
+pub fn add_byte(text: &mut String, byte: u8) -> Result<(), AllocError>
     ensures { OnOk result (string_bytes text.new ≡ string_bytes text.old ++ hex_byte byte) }
 {
     write!(text, "{byte:02X}")

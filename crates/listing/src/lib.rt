@@ -1,7 +1,9 @@
 // What the programs print, as library functions from bytes to text.
 #![tactic(auto)]
 
+mod calls;
 pub mod dividend;
+mod ending;
 mod hex;
 mod lines;
 mod sheet;

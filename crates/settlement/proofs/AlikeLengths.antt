@@ -11,7 +11,7 @@ use Rattle.steps.specs.Gate.{gate_material}
 use Rattle.tables.specs.Table.{places}
 use Rattle.tables.proofs.Packing.{length_listed}
 use Rattle.settlement.specs.State.{State}
-use Rattle.settlement.specs.Stands.{refusal}
+use Rattle.settlement.specs.Stands.{refusal, input_label}
 use Rattle.settlement.specs.Accepted.{Accepted}
 use Rattle.settlement.specs.Runs.{Step}
 use Rattle.settlement.specs.Claims.{SameLengths}
@@ -67,7 +67,7 @@ module _ {L : Type 0} where
   }
 
 module _ {L : Type 0} (K : Kind L) (F E : L → ℕ → L) (bytes : List ℕ) (s : State L) (a : Answer L) (t : State L) where
-  accepted_lengths : (call : Call) → refusal s K bytes call ≡ None → Accepted K bytes s a t F E call → SameLengths s t
+  pub accepted_lengths : (call : Call) → refusal s K bytes call ≡ None → Accepted K bytes s a t F E call → SameLengths s t
   accepted_lengths (Garble n m) free acc =
       let f = step_free s.garbler bytes K (not s.garbler.ended && gates_left s.garbler) (length s.zeros) (length (take n s.scratch)) (length (take m s.material)) free in
       let long = material_long K F s.seed s.offset (parts_of bytes) s.garbler.next (places K s.zeros) in
@@ -92,7 +92,7 @@ module _ {L : Type 0} (K : Kind L) (F E : L → ℕ → L) (bytes : List ℕ) (s
   }
   accepted_lengths (Deliver i) free acc = record {
     zeros = ap (λ (z : State L). length z.zeros) acc.leaves;
-    labels = ap (λ (z : State L). length z.labels) acc.leaves ∙ length-set s.labels i (places K s.sent i);
+    labels = ap (λ (z : State L). length z.labels) acc.leaves ∙ length-set s.labels i (input_label s K i);
     scratch = ap (λ (z : State L). length z.scratch) acc.leaves;
     material = ap (λ (z : State L). length z.material) acc.leaves;
     colours = ap (λ (z : State L). length z.colours) acc.leaves;

@@ -1,5 +1,5 @@
 -- A certify that stands tells the plain bit, and meets no label that is neither of the two. Assumes nothing.
-use Rattle.std.proofs.Common.{◌≡◌, ℕ, ◌<◌, ◌≤◌, Bool, true, false, cond, not, ◌&&◌, ◌||◌, ltb, List, [], ◌∷◌, length, Some, None, Option, refl, sym, ap, ap₂, ◌∙◌, inl, inr, arith}
+use Rattle.std.proofs.Common.{◌≡◌, ◌≢◌, ℕ, ◌<◌, ◌≤◌, Bool, true, false, cond, not, ◌&&◌, ◌||◌, ltb, List, [], ◌∷◌, length, Some, None, Option, refl, sym, ap, ap₂, ◌∙◌, inl, inr, arith}
 use Rattle.std.proofs.lemmas.Bool.{cases_Bool, lt-ltb}
 use Rattle.std.proofs.lemmas.Bool.Decides.{nat_tests}
 use Rattle.labels.specs.Kind.{Kind, differs, times}
@@ -10,7 +10,7 @@ use Rattle.circuit.specs.Gates.{output_of}
 use Rattle.circuit.specs.Check.{circuit_refusal}
 use Rattle.circuit.specs.Refusals.{first_of, or_else}
 use Rattle.circuit.specs.declared.refusal.Refusal.{Refusal}
-use Rattle.circuit.specs.declared.refusal.Refusal.TheVariants.{Foreign}
+use Rattle.circuit.specs.declared.refusal.Refusal.TheVariants.{Turn, Memory, Number, Foreign}
 use Rattle.plain.specs.Plain.{plain_bit}
 use Rattle.steps.specs.Whole.{zero_label}
 use Rattle.tables.specs.Table.{places}
@@ -21,8 +21,12 @@ use Rattle.laws.proofs.Opening.{parts_open}
 use Rattle.parties.specs.Turns.{gates_left}
 use Rattle.parties.specs.Refusing.{is_foreign, output_refusal}
 use Rattle.settlement.specs.State.{State}
-use Rattle.settlement.specs.Stands.{refusal, output_label}
+use Rattle.settlement.specs.Stands.{stands, refusal, output_label}
 use Rattle.settlement.specs.declared.call.Call.TheVariants.{Certify}
+use Rattle.settlement.specs.declared.line.Answer.{Answer}
+use Rattle.settlement.specs.declared.line.Answer.TheVariants.{NotMade, Refused, Garbled, Encoded, Delivered, Evaluated, Coloured, Decoded, Certified}
+use Rattle.settlement.specs.Lines.{is_accepted}
+use Rattle.settlement.specs.Runs.{Step}
 use Rattle.settlement.proofs.Circuits.{outputs_made}
 use Rattle.settlement.proofs.Facts.{output_free}
 use Rattle.settlement.proofs.Turning.{true_false, not_true}
@@ -100,6 +104,17 @@ module _ {L : Type 0} (K : Kind L) (F : L → ℕ → L) (bytes : List ℕ) (see
   pub certify_value : not (K.same (output_label s K bytes k) (places K s.zeros wire)) ≡ plain_bit d x wire
   certify_value = (λ i. not (K.same (label_is i) (zero_is i))) ∙ tells K (offset F seed K) (zero_label K F seed d wire) coloured (plain_bit d x wire)
 
+abbrev is_made : {L : Type 0} → Answer L → Bool
+is_made NotMade = false
+is_made (Refused why) = true
+is_made (Garbled bits bytes) = true
+is_made (Encoded label) = true
+is_made Delivered = true
+is_made (Evaluated bytes) = true
+is_made Coloured = true
+is_made Decoded = true
+is_made (Certified bit) = true
+
 -- so it is refused by what both sides show alone
 module _ {L : Type 0} (K : Kind L) (F : L → ℕ → L) (bytes : List ℕ) (seed : L) (passes : circuit_refusal bytes ≡ None) (coloured : K.colour (offset F seed K) ≡ true)
     (s : State L) (x : ℕ → Bool) (tied : Tied K F bytes seed s x) (k : ℕ) (decoded : s.decoded ≡ true) where
@@ -113,3 +128,30 @@ module _ {L : Type 0} (K : Kind L) (F : L → ℕ → L) (bytes : List ℕ) (see
 
   pub certify_public : refusal s K bytes (Certify k) ≡ shown
   certify_public = by_shown shown refl
+
+  -- what both sides show does not know of a label
+  shown_known : (o : Option Refusal) (a b d : Bool) → o ≡ None → or_else (or_else o (first_of ((a, Turn) ∷ []))) (first_of ((b, Memory) ∷ (d, Number) ∷ [])) ≢ Some Foreign
+  shown_known (Some why) a b d p e = absurd (let z : ◌≡◌ {A = ℕ} 0 1 = cc in omega arith)
+  shown_known None true b d p e = absurd (let z : ◌≡◌ {A = ℕ} 0 1 = cc in omega arith)
+  shown_known None false true d p e = absurd (let z : ◌≡◌ {A = ℕ} 0 1 = cc in omega arith)
+  shown_known None false false true p e = absurd (let z : ◌≡◌ {A = ℕ} 0 1 = cc in omega arith)
+  shown_known None false false false p e = absurd (let z : ◌≡◌ {A = ℕ} 0 1 = cc in omega arith)
+
+  pub certify_known : refusal s K bytes (Certify k) ≢ Some Foreign
+  certify_known e = shown_known (circuit_refusal bytes) _ _ _ passes (sym certify_public ∙ e)
+
+-- so no line of a certify has that refusal
+module _ {L : Type 0} (K : Kind L) (F : L → ℕ → L) (bytes : List ℕ) (seed : L) (passes : circuit_refusal bytes ≡ None) (coloured : K.colour (offset F seed K) ≡ true)
+    (s : State L) (x : ℕ → Bool) (tied : Tied K F bytes seed s x) (k : ℕ) (E : L → ℕ → L) (a : Answer L) (t : State L) (step : Step K F E bytes s (Certify k) a t) (e : a ≡ Refused Foreign) where
+  judged : stands s (Certify k) ≡ true → (o : Option Refusal) → refusal s K bytes (Certify k) ≡ o → ⊥
+  judged standing None free = true_false true refl (sym (ap is_accepted (step.accepted standing free).answer) ∙ ap is_accepted e)
+  judged standing (Some why) f =
+      let same : ◌≡◌ {A = Answer L} (Refused why) (Refused Foreign) = sym (step.refused why standing f).0 ∙ e in
+      let it : why ≡ Foreign = cc in
+      certify_known K F bytes seed passes coloured s x tied k standing (f ∙ ap Some it)
+
+  pub answer_known : ⊥
+  answer_known = elim (cases_Bool (stands s (Certify k))) [
+    | inl standing ↦ judged standing (refusal s K bytes (Certify k)) refl
+    | inr away ↦ true_false true refl (ap is_made (sym e ∙ (step.unmade away).0))
+  ]

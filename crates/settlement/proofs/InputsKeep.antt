@@ -1,6 +1,6 @@
 -- Encode and deliver keep the tie. Assumes nothing.
-use Rattle.std.proofs.Common.{◌≡◌, ℕ, suc, ◌+◌, ◌<◌, Bool, true, false, cond, not, eqb, leb, List, length, set, None, refl, sym, ap, ap₂, ◌∙◌, inl, inr, arith}
-use Rattle.std.proofs.lemmas.Bool.{cases_Bool, cases_eq, eq-eqb, ne_eqb}
+use Rattle.std.proofs.Common.{◌≡◌, ℕ, suc, ◌+◌, ◌<◌, Bool, true, false, cond, not, eqb, leb, ltb, List, length, set, None, refl, sym, ap, ap₂, ◌∙◌, subst, inl, inr, arith}
+use Rattle.std.proofs.lemmas.Bool.{cases_Bool, cases_eq, lt-ltb, eq-eqb, ne_eqb}
 use Rattle.std.proofs.lemmas.Bool.Decides.{nat_tests}
 use Rattle.std.proofs.lemmas.List.{length-set, get_or-set_same, get_or-set_other}
 use Rattle.labels.specs.Kind.{Kind, times}
@@ -22,7 +22,7 @@ use Rattle.parties.specs.States.{allowed, state_of}
 use Rattle.parties.proofs.Marking.{each_marked}
 use Rattle.garbler.specs.Garbling.{encoded}
 use Rattle.settlement.specs.State.{State, by_encode, by_deliver}
-use Rattle.settlement.specs.Stands.{stands, refusal}
+use Rattle.settlement.specs.Stands.{stands, refusal, input_label}
 use Rattle.settlement.specs.declared.call.Call.TheVariants.{Encode, Deliver}
 use Rattle.settlement.proofs.Circuits.{inputs_few}
 use Rattle.settlement.proofs.Facts.{input_free}
@@ -94,9 +94,9 @@ module _ {L : Type 0} (K : Kind L) (F : L → ℕ → L) (bytes : List ℕ) (see
         labels_marks_long = tied.labels_marks_long;
       }
 
-  pub deliver_keeps : (i : ℕ) → stands s (Deliver i) ≡ true → refusal s K bytes (Deliver i) ≡ None
+  sent_keeps : (i : ℕ) → stands s (Deliver i) ≡ true → refusal s K bytes (Deliver i) ≡ None
       → Tied K F bytes seed (by_deliver s (marked s.evaluator i) (set s.labels i (places K s.sent i))) x
-  deliver_keeps i standing free =
+  sent_keeps i standing free =
       let f = input_free s.evaluator (open_copy bytes) (allowed (state_of s.evaluator) DeliverCall) (length s.labels) i 0 free in
       let sizes = ap (λ z. z.inputs) tied.evaluator_sizes in
       let garbler_sizes = ap (λ z. z.inputs) tied.garbler_sizes in
@@ -150,3 +150,14 @@ module _ {L : Type 0} (K : Kind L) (F : L → ℕ → L) (bytes : List ℕ) (see
         marks_long = tied.marks_long;
         labels_marks_long = length-set s.evaluator.marks i true ∙ tied.labels_marks_long;
       }
+
+  pub deliver_keeps : (i : ℕ) → stands s (Deliver i) ≡ true → refusal s K bytes (Deliver i) ≡ None
+      → Tied K F bytes seed (by_deliver s (marked s.evaluator i) (set s.labels i (input_label s K i))) x
+  deliver_keeps i standing free =
+      let f = input_free s.evaluator (open_copy bytes) (allowed (state_of s.evaluator) DeliverCall) (length s.labels) i 0 free in
+      let below = f.there in
+      let sizes = ap (λ z. z.inputs) tied.evaluator_sizes in
+      let garbler_sizes = ap (λ z. z.inputs) tied.garbler_sizes in
+      let low : ltb i s.garbler.sizes.inputs ≡ true = lt-ltb i s.garbler.sizes.inputs (omega arith) in
+      subst (λ (l : L). Tied K F bytes seed (by_deliver s (marked s.evaluator i) (set s.labels i l)) x)
+      (ap (λ (q : Bool). cond q (places K s.sent i) K.zero) (sym low)) (sent_keeps i standing free)

@@ -4,21 +4,22 @@ mod Answering
 mod Running
 mod Facts
 mod Turning
-mod Circuits
+pub mod Circuits
 mod Between
 mod GatesKeep
 mod InputsKeep
 mod OutputsKeep
-mod Outcomes
+pub mod Outcomes
 mod Kept
 mod Counting
 mod Values
 mod Certifying
 mod Beginning
 mod Theorem
-mod AlikeLengths
+pub mod AlikeLengths
 mod AlikeBits
 mod AlikeRefusals
 mod AlikeCalls
 mod Alike
+mod Wiping
 mod Settling

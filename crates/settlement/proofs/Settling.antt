@@ -5,6 +5,7 @@ use Rattle.labels.specs.Kind.{Kind}
 use Rattle.hashes.specs.Draws.{offset, input_zero}
 use Rattle.circuit.specs.Check.{circuit_refusal}
 use Rattle.circuit.specs.Parts.{parts_of}
+use Rattle.circuit.specs.Gates.{wires_in}
 use Rattle.circuit.specs.Refusals.{or_else}
 use Rattle.circuit.specs.declared.refusal.Refusal.{Refusal}
 use Rattle.circuit.proofs.Checks.{or_else_none, only_none}
@@ -25,6 +26,7 @@ use Rattle.settlement.specs.declared.past.Past.{Past}
 use Rattle.settlement.proofs.Making.{not_both}
 use Rattle.settlement.proofs.Theorem.{claims, line_claims}
 use Rattle.settlement.proofs.Alike.{line_alike}
+use Rattle.settlement.proofs.Wiping.{Held, held_at, garbler_may, evaluator_may}
 
 or_else_assoc : (a b d : Option Refusal) → or_else a (or_else b d) ≡ or_else (or_else a b) d
 or_else_assoc (Some why) b d = refl
@@ -116,12 +118,15 @@ module _ {L : Type 0} (K : Kind L) (F E : L → ℕ → L) (bytes seed : List �
         → Settled K settlement seed old last
     settled last step garbler evaluator ends =
         let ran : Ran K settlement (length calls) = record { begun = begun; step = step; garbler_counts = garbler; evaluator_counts = evaluator } in
+        let held = subst (λ (z : State L). Held (wires_in (parts_of bytes)) (wires_in (parts_of (open_copy bytes))) z) ends (held_at K settlement (length calls) ran (length calls) (omega arith)) in
         record {
           prepared = prepared;
           ran = ran;
           ends = ends;
           claims = λ same k l. claims K settlement (length calls) ran same k l;
           lines = λ same k l. line_claims K settlement (length calls) ran same k l (line_alike K settlement (length calls) ran same k l);
+          garbler_wipes = garbler_may _ _ last held;
+          evaluator_wipes = evaluator_may _ _ last held;
         }
 
 -- a settlement that began and went on to its end

@@ -1,5 +1,5 @@
 -- The theorem on settlements: the tie holds between any two calls, and with it every claim. Assumes nothing.
-use Rattle.std.proofs.Common.{◌≡◌, ℕ, zero, suc, ◌<◌, ◌≤◌, Bool, true, false, cond, eqb, ltb, slice_index, sym, ap, ap₂, ◌∙◌, subst, inl, inr, arith, not, ◌&&◌, length}
+use Rattle.std.proofs.Common.{◌≡◌, ◌≢◌, ℕ, zero, suc, ◌<◌, ◌≤◌, Bool, true, false, cond, eqb, ltb, slice_index, sym, ap, ap₂, ◌∙◌, subst, inl, inr, arith, not, ◌&&◌, length}
 use Rattle.std.proofs.lemmas.Bool.{cases_Bool, cases_lt, lt-ltb, le-ltb}
 use Rattle.std.proofs.lemmas.Bool.Decides.{nat_tests}
 use Rattle.labels.specs.Kind.{Kind, times}
@@ -18,6 +18,7 @@ use Rattle.parties.specs.Marks.{is_marked, all_marked}
 use Rattle.settlement.specs.Lines.{call_at, line_at, is_accepted}
 use Rattle.settlement.specs.Runs.{Settlement, Step, Ran}
 use Rattle.settlement.specs.Claims.{given, bit_of, garbler_sum, evaluator_sum, garbler_made, evaluator_made, label_of, Alike, SameLine, Claims, LineClaims}
+use Rattle.circuit.specs.declared.refusal.Refusal.TheVariants.{Foreign}
 use Rattle.settlement.specs.declared.call.Call.{Call}
 use Rattle.settlement.specs.declared.call.Call.TheVariants.{Encode, Certify}
 use Rattle.settlement.specs.declared.line.Answer.TheVariants as Answers
@@ -25,7 +26,7 @@ use Rattle.circuit.proofs.Checks.{or_else_none}
 use Rattle.parties.specs.Turns.{gates_left}
 use Rattle.parties.specs.Refusing.{output_refusal}
 use Rattle.settlement.specs.Stands.{output_label}
-use Rattle.settlement.proofs.Certifying.{certify_value}
+use Rattle.settlement.proofs.Certifying.{certify_value, answer_known}
 use Rattle.settlement.proofs.Between.{ruled, Tied}
 use Rattle.settlement.proofs.Outcomes.{accepted_is}
 use Rattle.settlement.proofs.Kept.{call_keeps}
@@ -96,6 +97,7 @@ module _ {L : Type 0} (K : Kind L) (r : Settlement L) (n : ℕ) (ran : Ran K r n
       let tied = tied_at k l in
       record {
         labels = λ w _ gm em. labels_claim k l w gm em;
+        offset_is = tied.offset_is;
         zeros = λ w gm. tied.zeros w (let z = gm in grind (arith, nat_tests));
         material = tied.written;
         garbler_count = garbler_count_claim k l;
@@ -134,11 +136,19 @@ module _ {L : Type 0} (K : Kind L) (r : Settlement L) (n : ℕ) (ran : Ran K r n
       let free = or_else_none (output_refusal s.garbler r.circuit (not s.garbler.ended && not (gates_left s.garbler)) (length s.zeros) o) _ acc.1 in
       is ∙ certify_value K F r.circuit seed ran.begun.passes colours_offset s (given r k) (tied_at k (omega arith)) o acc.0 free.0
 
+  known_claim : (k : ℕ) → k < n → (o : ℕ) → call_at r.calls k ≡ Certify o → (line_at r.lines k).answer ≢ Answers.Refused Foreign
+  known_claim k l o ec ea =
+      let s = r.at k in
+      let a = (line_at r.lines k).answer in
+      let step = subst (λ (q : Call). Step K F F r.circuit s q a (r.at (suc k))) ec (step_at k l) in
+      answer_known K F r.circuit seed ran.begun.passes colours_offset s (given r k) (tied_at k (omega arith)) o F a (r.at (suc k)) step ea
+
   pub line_claims : (k : ℕ) → k < n → ((o : Settlement L) → Ran K o (suc k) → o.evaluator_hash ≡ o.garbler_hash → Alike r o → SameLine r o k) → LineClaims K r k
   line_claims k l alike = record {
     encodes = λ i b label ec ea. encodes_claim k l i b label ec ea;
     colours = λ m e o lo. ((tied_at (suc k) (omega arith)).shown m e).1 o lo;
     decodes = λ ea o lo. decodes_claim k l ea o lo;
     certifies = λ o bit ec ea. certifies_claim k l o bit ec ea;
+    known = λ o ec ea. known_claim k l o ec ea;
     alike = alike;
   }

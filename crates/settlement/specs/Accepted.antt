@@ -15,7 +15,7 @@ use Rattle.memory.specs.Outputs.{colours_of, decoded_of}
 use Rattle.garbler.specs.Garbling.{encoded}
 use Rattle.parties.specs.Side.{marked, stepped}
 use Rattle.settlement.specs.State.{State, by_garble, by_encode, by_deliver, by_evaluate, by_colours, by_decode}
-use Rattle.settlement.specs.Stands.{colours_by, output_label}
+use Rattle.settlement.specs.Stands.{colours_by, input_label, output_label}
 use Rattle.settlement.specs.declared.call.Call.{Call}
 use Rattle.settlement.specs.declared.call.Call.TheVariants.{Garble, Encode, Deliver, Evaluate, Colours, Decode, Certify}
 use Rattle.settlement.specs.declared.line.Answer.{Answer}
@@ -54,7 +54,7 @@ module _ {L : Type 0} (K : Kind L) (bytes : List ℕ) (s : State L) (a : Answer 
   -- deliver: the label that encode answered
   pub record Delivers (input : ℕ) : Type 0 where
     pub answer : a ≡ Delivered
-    pub leaves : t ≡ by_deliver s (marked s.evaluator input) (slice_set s.labels input (places K s.sent input))
+    pub leaves : t ≡ by_deliver s (marked s.evaluator input) (slice_set s.labels input (input_label s K input))
 
   -- colours: those of the outputs' zero labels
   pub record Shows (n : ℕ) : Type 0 where

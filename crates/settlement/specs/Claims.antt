@@ -1,8 +1,9 @@
 -- What is claimed of a settlement after each of its calls. Assumes nothing.
-use Rattle.std.specs.Prelude.{◌≡◌, ℕ, zero, suc, ◌+◌, ◌<◌, ◌&&◌, Bool, true, false, cond, nat_lt, length, take, Some, ◌==◌, slice_index}
+use Rattle.std.specs.Prelude.{◌≡◌, ◌≢◌, ℕ, zero, suc, ◌+◌, ◌<◌, ◌&&◌, Bool, true, false, cond, nat_lt, length, take, Some, ◌==◌, slice_index}
 use Rattle.labels.specs.Kind.{Kind, times}
 use Rattle.labels.specs.Numbers.{digit}
 use Rattle.hashes.specs.Count.{counted}
+use Rattle.hashes.specs.Draws.{offset}
 use Rattle.circuit.specs.Parts.{Parts, parts_of}
 use Rattle.circuit.specs.Gates.{output_of, wires_in}
 use Rattle.plain.specs.Plain.{plain_bit}
@@ -10,12 +11,13 @@ use Rattle.steps.specs.Gate.{garble_calls, evaluate_calls}
 use Rattle.steps.specs.Whole.{zero_label, material_before}
 use Rattle.tables.specs.Table.{places}
 use Rattle.parties.specs.Marks.{is_marked}
+use Rattle.circuit.specs.declared.refusal.Refusal.TheVariants.{Foreign}
 use Rattle.settlement.specs.State.{State}
 use Rattle.settlement.specs.Lines.{call_at, line_at, is_accepted, bare}
 use Rattle.settlement.specs.Runs.{Settlement, Ran}
 use Rattle.settlement.specs.declared.call.Call.{Call}
 use Rattle.settlement.specs.declared.call.Call.TheVariants.{Garble, Encode, Deliver, Evaluate, Colours, Decode, Certify}
-use Rattle.settlement.specs.declared.line.Answer.TheVariants.{Encoded, Decoded, Certified}
+use Rattle.settlement.specs.declared.line.Answer.TheVariants.{Refused, Encoded, Decoded, Certified}
 
 -- an accepted encode gives its input its bit
 abbrev pub noted : Call → Bool → (ℕ → Bool) → ℕ → Bool
@@ -132,7 +134,8 @@ module _ {L : Type 0} (K : Kind L) (r : Settlement L) where
     -- on every wire made on both sides the evaluator's label is the garbler's zero label, with the offset ⊕ed in exactly when the wire's plain bit is 1
     pub labels : (w : ℕ) → w < wires_in (parts_of r.circuit) → garbler_made (r.at k) w ≡ true → evaluator_made (r.at k) w ≡ true
         → places K (r.at k).labels w ≡ K.xor (places K (r.at k).zeros w) (times K (bit_of r k w) (r.at k).offset)
-    -- the garbler's zero labels and the material are those of the rules
+    -- the offset, the garbler's zero labels and the material are those of the rules
+    pub offset_is : (r.at k).offset ≡ offset r.garbler_hash (r.at 0).seed K
     pub zeros : (w : ℕ) → garbler_made (r.at k) w ≡ true → places K (r.at k).zeros w ≡ ideal w
     pub material : take (r.at k).garbler.bytes (r.at k).material ≡ material_before K r.garbler_hash (r.at 0).seed (parts_of r.circuit) (r.at k).garbler.next
     -- each count is the one its hash came with and the rules' sum over accepted calls
@@ -152,5 +155,7 @@ module _ {L : Type 0} (K : Kind L) (r : Settlement L) where
     -- every bit certified is the plain bit of its output
     pub certifies : (output : ℕ) (bit : Bool) → call_at r.calls k ≡ Certify output → (line_at r.lines k).answer ≡ Certified bit
         → bit ≡ bit_of r k (output_of (parts_of r.circuit) output)
+    -- and none is refused for a label that is neither of the output's two
+    pub known : (output : ℕ) → call_at r.calls k ≡ Certify output → (line_at r.lines k).answer ≢ Refused Foreign
     -- a settlement alike shows the same
     pub alike : (o : Settlement L) → Ran K o (suc k) → o.evaluator_hash ≡ o.garbler_hash → Alike r o → SameLine r o k

@@ -1,5 +1,5 @@
 -- The promise of a settlement. Assumes nothing.
-use Rattle.std.specs.Prelude.{◌≡◌, ℕ, ◌<◌, ◌≤◌, ◌||◌, List, [], ◌∷◌, length, Option, nat_lt}
+use Rattle.std.specs.Prelude.{◌≡◌, ℕ, ◌<◌, ◌≤◌, not, ◌||◌, List, [], ◌∷◌, length, None, Option, nat_lt}
 use Rattle.labels.specs.Kind.{Kind}
 use Rattle.circuit.specs.Parts.{parts_of}
 use Rattle.circuit.specs.Refusals.{first_of, or_else}
@@ -7,7 +7,9 @@ use Rattle.circuit.specs.declared.refusal.Refusal.{Refusal}
 use Rattle.circuit.specs.declared.refusal.Refusal.TheVariants.{Memory}
 use Rattle.memory.specs.Copy.{open_copy, copy_refusal}
 use Rattle.parties.specs.declared.side.Side.{Side}
-use Rattle.parties.specs.Refusing.{open_refusal, join_refusal}
+use Rattle.parties.specs.declared.state.Call.TheVariants.{Wipe}
+use Rattle.parties.specs.States.{state_of, allowed}
+use Rattle.parties.specs.Refusing.{open_refusal, join_refusal, wipe_refusal}
 use Rattle.garbler.specs.Garbling.{Opened}
 use Rattle.evaluator.specs.Evaluating.{Joined}
 use Rattle.settlement.specs.State.{State}
@@ -47,3 +49,6 @@ module _ {L : Type 0} (K : Kind L) (r : Settlement L) (seed : List ℕ) where
     pub ends : r.at (length r.calls) ≡ last
     pub claims : r.evaluator_hash ≡ r.garbler_hash → (k : ℕ) → k ≤ length r.calls → Claims K r k
     pub lines : r.evaluator_hash ≡ r.garbler_hash → (k : ℕ) → k < length r.calls → LineClaims K r k
+    -- both sides can be wiped, so that both tokens can be spent
+    pub garbler_wipes : wipe_refusal last.garbler (not last.garbler.ended) (length last.zeros) ≡ None
+    pub evaluator_wipes : wipe_refusal last.evaluator (allowed (state_of last.evaluator) Wipe) (length last.labels) ≡ None

@@ -1,5 +1,5 @@
 // The inputs: encode's label, which deliver carries.
-ghost use Rattle.std.specs.Prelude.{◌≡◌, ℕ, ◌≤◌, List, length, Option};
+ghost use Rattle.std.specs.Prelude.{◌≡◌, ℕ, ◌≤◌, cond, List, length, Option, nat_lt};
 ghost use Rattle.tables.specs.Table.{places};
 ghost use Rattle.memory.specs.Copy.{open_copy};
 ghost use Rattle.garbler.specs.declared.record.Garbler.{Garbler};
@@ -47,17 +47,29 @@ pub fn label_or_zero<L: Label>(labels: &[L], place: usize) -> L
     }
 }
 
+// The label that encode answered for an input, or the zero label where the number is too large.
+fn input_label<L: Label>(garbler: &Garbler<L>, sent: &[L], input: usize) -> L
+    ensures { result ≡ cond (nat_lt input garbler.now.progress.side.sizes.inputs) (places L.kind sent.now input) L.kind.zero }
+{
+    if input < usize::from(garbler.inputs()) {
+        label_or_zero(sent, input)
+    } else {
+        L::zero()
+    }
+}
+
 // Delivers the label that encode answered.
 pub fn deliver<L: Label>(
+    garbler: &Garbler<L>,
     evaluator: &mut Evaluator,
     copy: &[u8],
     lent: &mut Lent<L>,
     input: usize,
 ) -> Answer<L>
-    ensures made { (F E : L → ℕ → L) (garbler : Garbler L) (circuit : List ℕ) (past : Past) (m n : ℕ) → copy.now ≡ open_copy circuit → Made L.kind F E circuit (Deliver input) (state_of garbler evaluator.old lent.old past m n) result (state_of garbler evaluator.new lent.new past m n) }
+    ensures made { (F E : L → ℕ → L) (circuit : List ℕ) (past : Past) (m n : ℕ) → copy.now ≡ open_copy circuit → Made L.kind F E circuit (Deliver input) (state_of garbler.now evaluator.old lent.old past m n) result (state_of garbler.now evaluator.new lent.new past m n) }
     ensures loans { SameLoans lent.old lent.new }
 {
-    let label = label_or_zero(&mut *lent.sent, input);
+    let label = input_label(garbler, &mut *lent.sent, input);
     match evaluator.deliver(copy, lent.labels, input, label) {
         Ok(()) => Answer::Delivered,
         Err(why) => Answer::Refused(why),

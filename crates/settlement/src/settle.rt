@@ -90,7 +90,13 @@ pub fn settle<L: Label, G: LabelHash<L>, H: LabelHash<L>>(
     ensures cleared { seed.new ≡ replicate (length seed.old) 0 }
     ensures garbler_kept { G.means garbler_hash.new ≡ G.means garbler_hash.old }
     ensures evaluator_kept { H.means evaluator_hash.new ≡ H.means evaluator_hash.old }
-    ensures loans { SameLoans lent.old lent.new }
+    ensures zeros_lent { lent.new.zeros.ghost_name ≡ lent.old.zeros.ghost_name }
+    ensures labels_lent { lent.new.labels.ghost_name ≡ lent.old.labels.ghost_name }
+    ensures sent_lent { lent.new.sent.ghost_name ≡ lent.old.sent.ghost_name }
+    ensures scratch_lent { lent.new.scratch.ghost_name ≡ lent.old.scratch.ghost_name }
+    ensures material_lent { lent.new.material.ghost_name ≡ lent.old.material.ghost_name }
+    ensures colours_lent { lent.new.colours.ghost_name ≡ lent.old.colours.ghost_name }
+    ensures outputs_lent { lent.new.outputs.ghost_name ≡ lent.old.outputs.ghost_name }
     ensures accepted { OnOk result (settle_refusal L.kind (G.means garbler_hash.old) circuit.now seed.old garbler.old.progress.side evaluator.old.progress.side (length lent.old.zeros.now) (length lent.old.labels.now) (room_of (length calls.now) (length lines.old) (length lent.old.sent.now) (length copy.old)) ≡ None) }
     ensures copied { own_refusal circuit.now (room_of (length calls.now) (length lines.old) (length lent.old.sent.now) (length copy.old)) ≡ None → copy.new ≡ open_copy circuit.now ++ drop (length circuit.now) copy.old }
     ensures uncopied { (why : Refusal) → own_refusal circuit.now (room_of (length calls.now) (length lines.old) (length lent.old.sent.now) (length copy.old)) ≡ Some why → copy.new ≡ copy.old }

@@ -60,7 +60,7 @@ fn make<L: Label, G: LabelHash<L>, H: LabelHash<L>>(
             garble(garbler, garbler_hash, circuit, lent, scratch, material)
         }
         Call::Encode { input, bit } => encode(garbler, circuit, lent, input, bit),
-        Call::Deliver { input } => deliver(evaluator, copy, lent, input),
+        Call::Deliver { input } => deliver(garbler, evaluator, copy, lent, input),
         Call::Evaluate { scratch } => {
             let written = garbler.written();
             evaluate(evaluator, evaluator_hash, copy, lent, scratch, written)

@@ -1,0 +1,28 @@
+-- The colours that the garbler shows are bits. Assumes nothing.
+use Rattle.std.proofs.Common.{◌≡◌, ℕ, ◌<◌, Bool, true, false, eqb, List, length, get_or, refl, ap, ◌∙◌, arith}
+use Rattle.labels.specs.Kind.{Kind, differs}
+use Rattle.labels.specs.Numbers.{digit}
+use Rattle.circuit.specs.Words.{word_at, all_below}
+use Rattle.circuit.proofs.Bounds.{below_all}
+use Rattle.memory.specs.Outputs.{colour_at, colours_of, decoded_at, decoded_of}
+use Rattle.tables.specs.Table.{places}
+use Rattle.tables.proofs.Packing.{length_listed, get_or_listed}
+
+digit_small : (b : Bool) → digit b < 2
+digit_small true = omega arith
+digit_small false = omega arith
+
+module _ {L : Type 0} (K : Kind L) (zeros : List L) (list : List ℕ) (n : ℕ) where
+  pub colours_long : length (colours_of K zeros list n) ≡ n
+  colours_long = length_listed (colour_at K zeros list) n
+
+  at : (o : ℕ) → o < n → get_or (colours_of K zeros list n) o 0 ≡ colour_at K zeros list o
+  at o h = get_or_listed (colour_at K zeros list) n o 0 h
+
+  -- each is a bit
+  pub colours_small : all_below (λ i. get_or (colours_of K zeros list n) i 0) n 2 ≡ true
+  colours_small =
+      below_all (λ i. get_or (colours_of K zeros list n) i 0) n 2 (λ o h.
+      let e = at o h in
+      let s = digit_small (K.colour (places K zeros (word_at list o))) in
+      omega arith)

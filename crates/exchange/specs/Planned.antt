@@ -1,0 +1,42 @@
+-- A settlement that is planned to be whole: new sides, a circuit that passes with a bit for each input, its calls, and as much memory as it asks for. Assumes nothing.
+use Rattle.std.specs.Prelude.{◌≡◌, ℕ, List, length, None, Option}
+use Rattle.labels.specs.Kind.{Kind}
+use Rattle.circuit.specs.Parts.{Parts, parts_of}
+use Rattle.circuit.specs.Gates.{wires_in}
+use Rattle.circuit.specs.Check.{bytes_in}
+use Rattle.plain.specs.Plain.{plain_refusal}
+use Rattle.tables.specs.Material.{listed}
+use Rattle.parties.specs.declared.side.Side.{Side}
+use Rattle.parties.specs.Side.{unused}
+use Rattle.parties.specs.Refusing.{open_refusal}
+use Rattle.circuit.specs.Refusals.{or_else}
+use Rattle.circuit.specs.declared.refusal.Refusal.{Refusal}
+use Rattle.settlement.specs.declared.call.Call.{Call}
+use Rattle.settlement.specs.declared.lent.Lent.{Lent}
+use Rattle.settlement.specs.declared.line.Line.{Line}
+use Rattle.exchange.specs.Course.{calls_in, course}
+
+-- the first refusal of a whole settlement: that of a plain evaluation, and then that of opening, with memory enough
+abbrev pub whole_refusal : {L : Type 0} → Kind L → (L → ℕ → L) → List ℕ → List ℕ → List ℕ → Option Refusal
+whole_refusal K F bytes seed bits =
+    or_else (plain_refusal bytes bits (wires_in (parts_of bytes)) (parts_of bytes).sizes.outputs)
+    (open_refusal unused bytes K F (wires_in (parts_of bytes)) seed)
+
+-- the calls of a whole settlement
+abbrev pub calls_of : {L : Type 0} → Kind L → Parts → List ℕ → List Call
+calls_of K c bits = listed (calls_in c.sizes) (course c.sizes (bytes_in K c c.sizes.gates) bits)
+
+pub record Planned {L : Type 0} (K : Kind L) (bytes bits copy : List ℕ) (garbler evaluator : Side) (lent : Lent L) (calls : List Call) (lines : List (Line L)) : Type 0 where
+  pub garbler_new : garbler ≡ unused
+  pub evaluator_new : evaluator ≡ unused
+  pub accepted : plain_refusal bytes bits (wires_in (parts_of bytes)) (parts_of bytes).sizes.outputs ≡ None
+  pub calls_are : calls ≡ calls_of K (parts_of bytes) bits
+  pub copy_long : length copy ≡ length bytes
+  pub zeros_long : length lent.zeros.now ≡ wires_in (parts_of bytes)
+  pub labels_long : length lent.labels.now ≡ wires_in (parts_of bytes)
+  pub sent_long : length lent.sent.now ≡ 256
+  pub scratch_long : length lent.scratch.now ≡ 256
+  pub material_long : length lent.material.now ≡ bytes_in K (parts_of bytes) (parts_of bytes).sizes.gates
+  pub colours_long : length lent.colours.now ≡ (parts_of bytes).sizes.outputs
+  pub outputs_long : length lent.outputs.now ≡ (parts_of bytes).sizes.outputs
+  pub lines_long : length lines ≡ length calls

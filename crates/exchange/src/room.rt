@@ -1,0 +1,146 @@
+// The memory that a whole settlement is run in, on the heap.
+ghost use Rattle.std.specs.Prelude.{◌≡◌, length, Some, None, IfOk, MatchResult};
+ghost use Rattle.circuit.specs.Gates.{wires_in};
+ghost use Rattle.plain.specs.Plain.{plain_refusal};
+ghost use Rattle.plain.specs.Ready.{Ready};
+ghost use Rattle.circuit.specs.Lent.{parts_in};
+ghost use Rattle.circuit.specs.Parts.{parts_of};
+ghost use Rattle.exchange.specs.Furnished.{Furnished};
+
+use crate::calls::all_calls;
+use circuit::check::read;
+use circuit::passed::Circuit;
+use circuit::refusal::Refusal;
+use labels::kind::Label;
+use plain::run::all_bits;
+use settlement::call::Call;
+use settlement::lent::Lent;
+use settlement::line::{Answer, Line};
+use std::alloc::{AllocError, Global};
+
+// A label for each input that a circuit may have, and the scratch that a gate asks for.
+const LABELS: usize = 256;
+
+#[derive(Drop)]
+pub struct Room<L> {
+    pub copy: Vec<u8>,
+    pub seed: Vec<u8>,
+    pub zeros: Vec<L>,
+    pub labels: Vec<L>,
+    pub sent: Vec<L>,
+    pub scratch: Vec<L>,
+    pub material: Vec<u8>,
+    pub colours: Vec<u8>,
+    pub outputs: Vec<u8>,
+    pub calls: Vec<Call>,
+    pub lines: Vec<Line<L>>,
+}
+
+// A line for each call, none of them made yet.
+fn no_lines<L: Label>(heap: Global, calls: usize) -> Result<Vec<Line<L>>, AllocError>
+    ensures { IfOk result (λ v. length v.items ≡ calls) }
+{
+    let unmade = Line {
+        answer: Answer::NotMade,
+        garbler_count: 0,
+        evaluator_count: 0,
+    };
+    vec![in heap; unmade; calls]
+}
+
+// The circuit, where it passes and each of its inputs has a bit.
+fn judge<'a>(circuit: &'a [u8], bits: &[u8]) -> Result<Circuit<'a>, Refusal>
+    ensures { MatchResult result (λ c. Ready circuit.now bits.now (wires_in (parts_of circuit.now)) (parts_of circuit.now).sizes.outputs c) (λ why. plain_refusal circuit.now bits.now (wires_in (parts_of circuit.now)) (parts_of circuit.now).sizes.outputs ≡ Some why) }
+{
+    let c = read(circuit)?;
+    if bits.len() != usize::from(c.arrays.sizes.inputs) {
+        return Err(Refusal::Memory);
+    }
+    if !all_bits(bits) {
+        return Err(Refusal::Bit);
+    }
+    Ok(c)
+}
+
+impl<L: Label> Room<L> {
+    // As much as the circuit asks for, with the seed and the calls, unless the circuit or the bits are refused.
+    pub fn furnish(
+        heap: Global,
+        circuit: &[u8],
+        seed: &[u8],
+        bits: &[u8],
+    ) -> Result<Result<Room<L>, Refusal>, AllocError>
+        ensures { IfOk result (λ r. MatchResult r (λ m. Furnished L.kind circuit.now seed.now bits.now m) (λ why. plain_refusal circuit.now bits.now (wires_in (parts_of circuit.now)) (parts_of circuit.now).sizes.outputs ≡ Some why)) }
+    {
+        match judge(circuit, bits) {
+            Ok(c) => {
+                let room = Room::new(heap, circuit, c, seed, bits)?;
+                Ok(Ok(room))
+            }
+            Err(why) => Ok(Err(why)),
+        }
+    }
+
+    // With a circuit that passed.
+    fn new(
+        heap: Global,
+        circuit: &[u8],
+        c: Circuit,
+        seed: &[u8],
+        bits: &[u8],
+    ) -> Result<Room<L>, AllocError>
+        requires parts { parts_in c.arrays ≡ parts_of circuit.now }
+        requires bits { length bits.now ≡ c.arrays.sizes.inputs }
+        requires accepted { plain_refusal circuit.now bits.now (wires_in (parts_of circuit.now)) (parts_of circuit.now).sizes.outputs ≡ None }
+        ensures { IfOk result (λ m. Furnished L.kind circuit.now seed.now bits.now m) }
+    {
+        let zero = L::zero();
+        let wires = usize::from(c.wires);
+        let outputs = usize::from(c.arrays.sizes.outputs);
+        let material = c.totals::<L>().bytes;
+        let calls = all_calls(heap, c.arrays.sizes, material, bits)?;
+        let lines = no_lines(heap, calls.len())?;
+        Ok(Room {
+            copy: vec![in heap; 0; circuit.len()]?,
+            seed: seed.to_vec(heap)?,
+            zeros: vec![in heap; zero; wires]?,
+            labels: vec![in heap; zero; wires]?,
+            sent: vec![in heap; zero; LABELS]?,
+            scratch: vec![in heap; zero; LABELS]?,
+            material: vec![in heap; 0; material]?,
+            colours: vec![in heap; 0; outputs]?,
+            outputs: vec![in heap; 0; outputs]?,
+            calls,
+            lines,
+        })
+    }
+}
+
+// The memories under their names. A function of its own, since a struct of several new loans is not covered yet.
+pub fn lend<'a, L: Label>(
+    zeros: &'a mut [L],
+    labels: &'a mut [L],
+    sent: &'a mut [L],
+    scratch: &'a mut [L],
+    material: &'a mut [u8],
+    colours: &'a mut [u8],
+    outputs: &'a mut [u8],
+) -> Lent<'a, L>
+    ensures zeros { result.zeros.now ≡ zeros.old }
+    ensures labels { result.labels.now ≡ labels.old }
+    ensures sent { result.sent.now ≡ sent.old }
+    ensures scratch { result.scratch.now ≡ scratch.old }
+    ensures material { result.material.now ≡ material.old }
+    ensures colours { result.colours.now ≡ colours.old }
+    ensures outputs { result.outputs.now ≡ outputs.old }
+{
+    Lent {
+        zeros,
+        labels,
+        sent,
+        scratch,
+        material,
+        colours,
+        outputs,
+    }
+}

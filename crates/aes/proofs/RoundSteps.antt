@@ -32,7 +32,7 @@ mixed_word_and_key a b c d k p q r s h i j l =
 
 -- the four bytes in their rows, with the round key
 pub placed_word_and_key : (a b c d k p q r s : ℕ) → bytes4 a ≡ alone 0 p → bytes4 b ≡ alone 1 q → bytes4 c ≡ alone 2 r → bytes4 d ≡ alone 3 s
-    → bytes4 (bit_xor (bit_xor (bit_xor (bit_xor a b) c) d) k) ≡ xors (p ∷ q ∷ r ∷ s ∷ []) (bytes4 k)
+    → bytes4 (bit_xor (bit_xor (bit_xor (bit_xor d a) b) c) k) ≡ xors (p ∷ q ∷ r ∷ s ∷ []) (bytes4 k)
 unfolding alone xors
 placed_word_and_key a b c d k p q r s h i j l = simp (bytes4_xor, h, i, j, l, xor_zero_l, xor_zero_r)
 

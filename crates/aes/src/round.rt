@@ -46,10 +46,10 @@ pub fn full_round(s: Block, k: Block) -> Block
 fn last_column(p: u32, q: u32, s: u32, t: u32, k: u32) -> u32
     ensures { bytes4 result ≡ xors (s_box (byte 0 p) ∷ s_box (byte 1 q) ∷ s_box (byte 2 s) ∷ s_box (byte 3 t) ∷ []) (bytes4 k) }
 {
-    placed::<0>(rows(p)[0])
+    placed::<3>(rows(t)[3])
+        ^ placed::<0>(rows(p)[0])
         ^ placed::<1>(rows(q)[1])
         ^ placed::<2>(rows(s)[2])
-        ^ placed::<3>(rows(t)[3])
         ^ k
 }
 

@@ -21,7 +21,7 @@ pub fn add_round_key(s: Block, k: Block) -> Block
     }
 }
 
-// One column of a full round. Row 3 comes first: its byte is the soonest at hand, and the AES hash takes 2 percent less time.
+// One column of a full round. Row 3 comes first: with row 0 first the AES hash takes 3 percent more time.
 #[tactic(auto, using(crate::proofs::RoundSteps::mixed_word_and_key), unfolding(crate::specs::Bytes::bytes4))]
 fn full_column(p: u32, q: u32, s: u32, t: u32, k: u32) -> u32
     ensures { bytes4 result ≡ xors (mixed (s_box (byte 0 p)) (s_box (byte 1 q)) (s_box (byte 2 s)) (s_box (byte 3 t))) (bytes4 k) }

@@ -4,4 +4,5 @@ pub mod Halves
 pub mod WordLists
 pub mod Expansion
 pub mod Mixed
+pub mod Placed
 pub mod RoundSteps

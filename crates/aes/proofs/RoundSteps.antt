@@ -1,11 +1,11 @@
 -- The steps of a round on columns. Assumes nothing.
 use Rattle.std.proofs.Common.{◌≡◌, ℕ, List, [], ◌∷◌, sym, ap, ◌∙◌}
-use lib.Bits.{bit_xor}
+use lib.Bits.{bit_xor, xor_assoc, xor_comm, xor_zero_l, xor_zero_r}
 use Rattle.aes.specs.SBox.{s_box}
 use Rattle.aes.specs.Bytes.{byte, bytes4, xors}
 use Rattle.aes.specs.Columns.{columns}
 use Rattle.aes.specs.Rounds.{add_round_key, full_round, last_round, mix_columns, mixed_column, mixed, sum4, shift_rows, shifted_column, cell, sub_bytes}
-use Rattle.aes.specs.Shares.{share, top_share}
+use Rattle.aes.specs.Shares.{share, top_share, alone}
 use Rattle.aes.proofs.Words.{by_columns, bytes4_xor}
 
 pub key_added : (a b c d i j k l : ℕ) → add_round_key (columns a b c d) (columns i j k l) ≡ columns (bit_xor a i) (bit_xor b j) (bit_xor c k) (bit_xor d l)
@@ -14,17 +14,27 @@ key_added a b c d i j k l =
     sym (by_columns (bit_xor a i) (bit_xor b j) (bit_xor c k) (bit_xor d l)
     (bytes4_xor a i) (bytes4_xor b j) (bytes4_xor c k) (bytes4_xor d l))
 
+-- the code adds the last row's share first
+last_first : (a b c d : ℕ) → bit_xor (bit_xor (bit_xor d a) b) c ≡ bit_xor (bit_xor (bit_xor a b) c) d
+last_first a b c d = rw (xor_assoc d a b, xor_assoc d (bit_xor a b) c) (xor_comm d (bit_xor (bit_xor a b) c))
+
 -- the four shares make the mixed column
 pub mixed_word : (a b c d p q r s : ℕ) → bytes4 a ≡ share 0 p → bytes4 b ≡ share 1 q → bytes4 c ≡ share 2 r → bytes4 d ≡ share 3 s
-    → bytes4 (bit_xor (bit_xor (bit_xor a b) c) d) ≡ mixed p q r s
+    → bytes4 (bit_xor (bit_xor (bit_xor d a) b) c) ≡ mixed p q r s
 unfolding share top_share mixed sum4 xors
-mixed_word a b c d p q r s h i j k = simp (bytes4_xor, h, i, j, k)
+mixed_word a b c d p q r s h i j k = rw (last_first a b c d) (simp (bytes4_xor, h, i, j, k))
 
 -- with the round key
 pub mixed_word_and_key : (a b c d k p q r s : ℕ) → bytes4 a ≡ share 0 p → bytes4 b ≡ share 1 q → bytes4 c ≡ share 2 r → bytes4 d ≡ share 3 s
-    → bytes4 (bit_xor (bit_xor (bit_xor (bit_xor a b) c) d) k) ≡ xors (mixed p q r s) (bytes4 k)
+    → bytes4 (bit_xor (bit_xor (bit_xor (bit_xor d a) b) c) k) ≡ xors (mixed p q r s) (bytes4 k)
 mixed_word_and_key a b c d k p q r s h i j l =
-    bytes4_xor (bit_xor (bit_xor (bit_xor a b) c) d) k ∙ ap (λ (l : List ℕ). xors l (bytes4 k)) (mixed_word a b c d p q r s h i j l)
+    bytes4_xor (bit_xor (bit_xor (bit_xor d a) b) c) k ∙ ap (λ (l : List ℕ). xors l (bytes4 k)) (mixed_word a b c d p q r s h i j l)
+
+-- the four bytes in their rows, with the round key
+pub placed_word_and_key : (a b c d k p q r s : ℕ) → bytes4 a ≡ alone 0 p → bytes4 b ≡ alone 1 q → bytes4 c ≡ alone 2 r → bytes4 d ≡ alone 3 s
+    → bytes4 (bit_xor (bit_xor (bit_xor (bit_xor d a) b) c) k) ≡ xors (p ∷ q ∷ r ∷ s ∷ []) (bytes4 k)
+unfolding alone xors
+placed_word_and_key a b c d k p q r s h i j l = simp (bytes4_xor, h, i, j, l, xor_zero_l, xor_zero_r)
 
 -- a full round, column by column
 pub full_round_columns : (a b c d i j k l p q r s : ℕ)

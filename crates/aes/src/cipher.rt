@@ -8,7 +8,7 @@ use crate::key_schedule::RoundKeys;
 use crate::round::{add_round_key, full_round, last_round};
 
 // The block encrypted under the key that the round keys were made of.
-// The rounds one by one: as a loop the AES hash takes 599 instructions a call in place of 519.
+// The rounds one by one: as a loop over a static the AES hash takes 585 instructions in place of 515, and no less time.
 #[tactic(auto, unfolding(crate::specs::Cipher::rounds, crate::specs::Cipher::cipher))]
 pub fn encrypt_under(keys: &RoundKeys, block: Block) -> Block
     ensures { bytes_of result ≡ enciphered (bytes_of keys.now.key) (bytes_of block) }

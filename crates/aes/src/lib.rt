@@ -6,5 +6,6 @@ pub mod cipher;
 pub mod fixed;
 pub mod key_schedule;
 mod mixed_tables;
+mod placed_tables;
 mod round;
 pub mod s_box;

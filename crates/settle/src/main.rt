@@ -6,11 +6,13 @@ use listing::dividend::settle_text;
 use std::{env, fs};
 
 const USAGE: &str = "usage: settle CIRCUIT FIRST SECOND SEED";
+const MOST: &str = "a ticket count is a number of at most 127";
 
 // A ticket count of at most seven bits.
 fn count_of(word: Option<String>) -> anyhow::Result<u8> {
-    let count = word.context(USAGE)?.as_str().parse()?;
-    ensure!(count <= 127, "a ticket count is at most 127");
+    let word = word.context(USAGE)?;
+    let count = word.as_str().parse().context(MOST)?;
+    ensure!(count <= 127, MOST);
     Ok(count)
 }
 
@@ -23,6 +25,7 @@ fn run(rt: &HostRuntime) -> anyhow::Result<()> {
     let second = count_of(words.next())?;
     let digits = words.next().context(USAGE)?;
     let seed = hex::decode(heap, digits.as_str()).context("the seed is no hex")?;
+    ensure!(words.next().is_none(), USAGE);
     let circuit = fs::read(rt, path.as_str())?;
     let text = settle_text(heap, circuit.as_slice(), seed.as_slice(), first, second)?;
     rt.print(text.as_str())?;

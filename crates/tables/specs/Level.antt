@@ -1,5 +1,5 @@
 -- What the loops of the table gate keep of memory. Assumes nothing.
-use Rattle.std.specs.Prelude.{◌≡◌, ℕ, suc, ◌+◌, ◌-◌, ◌*◌, ◌^◌, ◌<◌, ◌≤◌, min, Bool, cond, List, length, slice_index}
+use Rattle.std.specs.Prelude.{◌≡◌, ℕ, suc, ◌+◌, ◌*◌, ◌^◌, ◌<◌, ◌≤◌, Bool, cond, List, slice_index}
 use Rattle.labels.specs.Kind.{Kind, times}
 use Rattle.labels.specs.Numbers.{number}
 use Rattle.tables.specs.Table.{places, based, sum, picked}
@@ -34,6 +34,7 @@ module _ {L : Type 0} (K : Kind L) where
   Numbered F g m n Δ B nums =
       (p : ℕ) → p < n → (b : Bool) (i : ℕ) → i < 2 ^ p → slice_index nums (2 ^ suc p + (cond b 1 0 * 2 ^ p + i)) ≡ picked K F g m (2 ^ p) (K.xor (B p) (times K b Δ)) i
 
--- the bytes hold the first p bits of the rows f of m bits, and zero bits past them
-abbrev pub Packing : ℕ → ℕ → (ℕ → ℕ) → ℕ → List ℕ → Type 0
-Packing w m f p bytes = (b : ℕ) → b < length bytes → slice_index bytes b ≡ number (min 8 (p - 8 * b)) (λ k. stream w m f (8 * b + k))
+-- the first `at` bytes are those of the w rows f of m bits, and `bits` is the number of the next `count` bits
+pub record Packing (w m : ℕ) (f : ℕ → ℕ) (at count bits : ℕ) (bytes : List ℕ) : Type 0 where
+  pub written : (b : ℕ) → b < at → slice_index bytes b ≡ number 8 (λ k. stream w m f (8 * b + k))
+  pub held : bits ≡ number count (λ k. stream w m f (8 * at + k))

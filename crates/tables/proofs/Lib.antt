@@ -6,6 +6,7 @@ pub mod Growing
 pub mod Running
 pub mod Filling
 pub mod Parts
+pub mod Buckets
 pub mod Hot
 pub mod Masks
 pub mod Givens

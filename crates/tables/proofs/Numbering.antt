@@ -25,7 +25,7 @@ number_below (suc n) b =
     let e = two_pow n in
     elim (b n) as (λ v. cond v 1 0 * 2 ^ n + number n b < 2 ^ suc n) [ true ↦ omega arith | false ↦ omega arith ]
 
-mod_longer : (a p q : ℕ) → p ≤ q → a % 2 ^ q % 2 ^ p ≡ a % 2 ^ p
+pub mod_longer : (a p q : ℕ) → p ≤ q → a % 2 ^ q % 2 ^ p ≡ a % 2 ^ p
 mod_longer a p q h =
     let e : q ≡ (q - p) + p = omega arith in
     ap (λ k. a % 2 ^ k % 2 ^ p) e ∙ mod-mod-pow a (q - p) p

@@ -10,6 +10,7 @@ pub mod Buckets
 pub mod Hot
 pub mod Masks
 pub mod Givens
+pub mod Mixing
 pub mod Mades
 pub mod Packing
 pub mod Placing

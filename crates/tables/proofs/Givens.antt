@@ -1,7 +1,7 @@
 -- Steps 2 and 3 of the table gate for the garbler, level by level. Assumes nothing.
-use Rattle.std.proofs.Common.{◌≡◌, ℕ, zero, suc, ◌+◌, ◌-◌, ◌*◌, ◌/◌, ◌%◌, ◌^◌, ◌<◌, ◌≤◌, Bool, true, false, cond, eqb, List, length, get_or, sym, refl, ap, ◌∙◌, subst, ap₂, inl, inr, add-one, arith, pow_pos, pow_mono}
+use Rattle.std.proofs.Common.{◌≡◌, ℕ, zero, suc, ◌+◌, ◌-◌, ◌*◌, ◌/◌, ◌%◌, ◌^◌, ◌<◌, ◌≤◌, Bool, true, false, cond, eqb, List, length, get_or, sym, refl, ap, ◌∙◌, subst, inl, inr, arith, pow_pos, pow_mono}
 use borrow.Rule.Slice.PartMut.{put_mid}
-use lib.Bits.{bit_xor, xor_assoc}
+use lib.Bits.{bit_xor}
 use lib.Pow.{mod-pow-add}
 use Rattle.std.proofs.lemmas.Nat.{mod_below}
 use Rattle.std.proofs.lemmas.Bool.{cases_lt}
@@ -24,9 +24,6 @@ pub low_suc : (i p : ℕ) → i % 2 ^ suc p ≡ cond (bit p i) 1 0 * 2 ^ p + i %
 low_suc i p =
     let e : suc p ≡ 1 + p = omega arith in
     ap (λ k. i % 2 ^ k) e ∙ mod-pow-add i 1 p ∙ ap (λ x. x * 2 ^ p + i % 2 ^ p) (bit_of (i / 2 ^ p % 2) (omega arith))
-
-pub mixed_more : (d : ℕ) (f : ℕ → ℕ) (s a x : ℕ) → a ≡ bit_xor s (mixed d f) → x ≡ f d → bit_xor a x ≡ bit_xor s (mixed (d + 1) f)
-mixed_more d f s a x ea ex = ap₂ bit_xor ea ex ∙ xor_assoc s (mixed d f) (f d) ∙ ap (λ k. bit_xor s (mixed k f)) (sym (add-one d))
 
 below_next : (q p : ℕ) → q < p → 2 ^ suc q + 2 ^ suc q ≤ 2 ^ suc p
 below_next q p l = let e = two_pow (suc q) in let m = pow_mono {i = suc (suc q)} {j = suc p} (omega arith) in omega arith

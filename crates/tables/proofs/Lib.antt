@@ -6,9 +6,11 @@ pub mod Growing
 pub mod Running
 pub mod Filling
 pub mod Parts
+pub mod Buckets
 pub mod Hot
 pub mod Masks
 pub mod Givens
+pub mod Mixing
 pub mod Mades
 pub mod Packing
 pub mod Placing

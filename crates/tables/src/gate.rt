@@ -7,6 +7,7 @@ ghost use Rattle.tables.specs.Level.{bases, Holds};
 ghost use Rattle.material.specs.Size.{labels_of, bytes_of};
 ghost use Rattle.tables.specs.Material.{row_bytes, row_word};
 ghost use Rattle.tables.specs.Ran.{Ran};
+ghost use Rattle.std.specs.Mem.{type_size};
 ghost use Rattle.tables.specs.Table.{places, colours as of_colours, hot, hot_row, mask_row, turned, made};
 
 use crate::levels::{evaluate_levels, garble_levels};
@@ -14,7 +15,7 @@ use crate::number::colours;
 use crate::one_hot::{evaluate_one_hot, garble_one_hot};
 use crate::pack::{pack, unpack};
 use crate::random::{mask_table, pick_all};
-use crate::wires::{choose, start_wires};
+use crate::wires::{choose, local_labels_fit, start_wires};
 use gates::clear::clear;
 use hashes::draws::draw;
 use hashes::hash::LabelHash;
@@ -34,6 +35,7 @@ fn garble_labels<L: Label, H: LabelHash<L>>(
     new: &mut [L],
     material: &mut [u8],
 )
+    requires fits { 64 * type_size L.row < 2 ^ 63 }
     requires outputs { length new.old ≤ 16 }
     requires some { 1 ≤ length zeros.now }
     requires few { length zeros.now ≤ 8 }
@@ -81,6 +83,7 @@ fn garble_uncleared<L: Label, H: LabelHash<L>>(
     ensures kept { H.means h.new ≡ H.means h.old }
     ensures count { H.calls h.new ≡ counted (H.calls h.old) (garbler_calls (length zeros.now) (length new.old)) }
 {
+    local_labels_fit(scratch);
     let n = zeros.len();
     let m = new.len();
     let s = draw(h, seed, 2048 + gate).low_bits(m as u32);
@@ -141,6 +144,7 @@ fn evaluate_uncleared<L: Label, H: LabelHash<L>>(
     ensures kept { H.means h.new ≡ H.means h.old }
     ensures count { H.calls h.new ≡ counted (H.calls h.old) (evaluator_calls (length labels.now) (length new.old)) }
 {
+    local_labels_fit(scratch);
     let n = labels.len();
     let m = new.len();
     let mut numbers = [0u16; 256];

@@ -6,12 +6,13 @@ ghost use Rattle.tables.specs.Level.{bases, Holds, Numbered};
 ghost use Rattle.material.specs.Size.{labels_of};
 ghost use Rattle.tables.specs.Material.{row_bytes, row_at, mask_rows};
 ghost use Rattle.tables.specs.Ran.{Ran};
-ghost use Rattle.tables.specs.Table.{places, chosen, masked, level as level_of, sum, given as share_of, mask_row, taken};
+ghost use Rattle.std.specs.Mem.{type_size};
+ghost use Rattle.tables.specs.Table.{places, masked, level as level_of, sum, given as share_of, mask_row, taken};
 
 use crate::number::{base, level_after, weight};
 use crate::random::pick;
 use crate::rows::{get_row, put_row};
-use crate::wires::gather;
+use crate::wires::choose;
 use gates::scale::times;
 use gates::tweak::tweak;
 use hashes::hash::LabelHash;
@@ -39,23 +40,23 @@ fn halve<L: Label>(v: &mut [L])
     }
 }
 
-// S(b,j) ⊕ M(b,j), from the numbers for b, the half of V that b names, and the key.
+// S(b,j) ⊕ M(b,j), from the sums S(b,·) and the key.
 fn mask<L: Label, H: LabelHash<L>>(
     h: &mut H,
     gate: u32,
     l: usize,
     key: L,
-    nums: &[u16],
-    v: &[L],
+    sums: &[L],
     j: usize,
 ) -> L
     requires small { j < 16 }
     requires low { l ≤ 8 }
-    requires paired { length nums.now ≡ length v.now }
-    ensures answer { result ≡ L.kind.xor (chosen L.kind j (length v.now) (λ i. slice_index nums.now i) (places L.kind v.now)) (H.means h.old key (at_point gate (512 + 16 * l + j))) }
+    requires within { j < length sums.now }
+    ensures answer { result ≡ L.kind.xor (places L.kind sums.now j) (H.means h.old key (at_point gate (512 + 16 * l + j))) }
     ensures ran { Ran (H.means h.old) (H.means h.new) (H.calls h.old) (H.calls h.new) 1 }
 {
-    gather(j, nums, v).xor(h.hash(key, tweak(gate, 512 + 16 * l + j)))
+    let sum = sums[j];
+    sum.xor(h.hash(key, tweak(gate, 512 + 16 * l + j)))
 }
 
 // The garbler's level: adds its parts to the new wires, and writes its rows of the material.
@@ -68,6 +69,7 @@ fn garble_level<L: Label, H: LabelHash<L>>(
     new: &mut [L],
     material: &mut [u8],
 )
+    requires fits { 64 * type_size L.row < 2 ^ 63 }
     requires small { length new.old ≤ 16 }
     requires labels { length v.now ≡ 2 ^ level.l }
     requires numbers { length nums.now ≡ 2 ^ level.l }
@@ -80,9 +82,15 @@ fn garble_level<L: Label, H: LabelHash<L>>(
     let w = 1 << (level.l - 1);
     let key0 = level.key;
     let key1 = key0.xor(offset);
+    let mut front = [L::zero(); 16];
+    let mut back = [L::zero(); 16];
+    let zeros = &mut front[..new.len()];
+    let ones = &mut back[..new.len()];
+    choose(&nums[..w], &v[..w], zeros);
+    choose(&nums[w..], &v[w..], ones);
     for (j, label) in new.iter_mut().enumerate() {
-        let zero = mask(h, level.gate, level.l, key0, &nums[..w], &v[..w], j);
-        let one = mask(h, level.gate, level.l, key1, &nums[w..], &v[w..], j);
+        let zero = mask(h, level.gate, level.l, key0, zeros, j);
+        let one = mask(h, level.gate, level.l, key1, ones, j);
         put_row(material, level.row + j, zero.xor(one));
         *label = label.xor(zero);
     }
@@ -100,6 +108,7 @@ pub fn garble_levels<L: Label, H: LabelHash<L>>(
     new: &mut [L],
     material: &mut [u8],
 )
+    requires fits { 64 * type_size L.row < 2 ^ 63 }
     requires small { length new.old ≤ 16 }
     requires few { length zeros.now ≤ 8 }
     requires labels { 2 ^ length zeros.now ≤ length v.old }
@@ -111,8 +120,7 @@ pub fn garble_levels<L: Label, H: LabelHash<L>>(
     ensures before { (i : ℕ) → i < length zeros.now - 1 → row_bytes L.kind i material.new ≡ row_bytes L.kind i material.old }
     ensures ran { Ran (H.means h.old) (H.means h.new) (H.calls h.old) (H.calls h.new) (2 * (length zeros.now * length new.old)) }
 {
-    let n = zeros.len();
-    let m = new.len();
+    let (n, m) = (zeros.len(), new.len());
     // By number: hashes and rows name a level by its number, from n down.
     for d in 0..n {
         let l = level_after(n, d);
@@ -146,6 +154,7 @@ fn evaluate_level<L: Label, H: LabelHash<L>>(
     new: &mut [L],
     material: &[u8],
 )
+    requires fits { 64 * type_size L.row < 2 ^ 63 }
     requires small { length new.old ≤ 16 }
     requires labels { length v.now ≡ 2 ^ level.l }
     requires numbers { length nums.now ≡ 2 ^ (level.l - 1) }
@@ -156,16 +165,11 @@ fn evaluate_level<L: Label, H: LabelHash<L>>(
     let b = level.key.colour();
     let w = 1 << (level.l - 1);
     let start = weight(b, w);
+    let mut sums = [L::zero(); 16];
+    let sums = &mut sums[..new.len()];
+    choose(nums, &v[start..start + w], sums);
     for (j, label) in new.iter_mut().enumerate() {
-        let part = mask(
-            h,
-            level.gate,
-            level.l,
-            level.key,
-            nums,
-            &v[start..start + w],
-            j,
-        );
+        let part = mask(h, level.gate, level.l, level.key, sums, j);
         let row: L = get_row(material, level.row + j);
         *label = label.xor(unmasked(b, part, row));
     }
@@ -180,6 +184,7 @@ fn evaluate_then_halve<L: Label, H: LabelHash<L>>(
     new: &mut [L],
     material: &[u8],
 )
+    requires fits { 64 * type_size L.row < 2 ^ 63 }
     requires small { length new.old ≤ 16 }
     requires labels { length v.old ≡ 2 ^ level.l }
     requires numbers { length nums.now ≡ 2 ^ (level.l - 1) }
@@ -201,6 +206,7 @@ pub fn evaluate_levels<L: Label, H: LabelHash<L>>(
     v: &mut [L],
     new: &mut [L],
 )
+    requires fits { 64 * type_size L.row < 2 ^ 63 }
     requires small { length new.old ≤ 16 }
     requires few { length labels.now ≤ 8 }
     requires places { 2 ^ length labels.now ≤ length v.old }

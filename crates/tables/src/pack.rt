@@ -5,22 +5,48 @@ ghost use Rattle.material.specs.Size.{in_bytes};
 ghost use Rattle.tables.specs.Material.{packed as in_order, bit_at, unpacked};
 ghost use Rattle.labels.specs.Numbers.{number};
 
-use crate::number::{has_bit, weight};
+// Bits of the rows that are not in the bytes yet: the `count` lowest of `bits`, which stand from byte `at` on.
+#[derive(Clone, Copy)]
+struct Held {
+    at: usize,
+    count: usize,
+    bits: u32,
+}
 
-// Adds row i of m bits, after the rows before it.
-fn pack_row(fs: &[u16], m: usize, i: usize, bytes: &mut [u8])
-    requires rows { i < length fs.now }
-    requires few { length fs.now ≤ 256 }
+// Holds the m lowest bits of the next row too.
+fn hold_row(held: Held, row: u16, m: usize) -> Held
     requires small { m ≤ 16 }
-    requires room { length bytes.old ≡ in_bytes (length fs.now * m) }
-    requires there { Packing (length fs.now) m (λ i. slice_index fs.now i) (i * m) bytes.old }
-    ensures { Packing (length fs.now) m (λ i. slice_index fs.now i) (i * m + m) bytes.new }
+    requires few { held.count < 8 }
+    requires low { held.bits < 256 }
+    requires near { held.at ≤ 512 }
+    ensures at { result.at ≡ held.at }
+    ensures count { result.count ≡ held.count + m }
+    ensures bits { result.bits ≡ row % 2 ^ m * 2 ^ held.count + held.bits }
 {
-    let f = fs[i];
-    // By number: bit j of the row is bit i * m + j of the bytes.
-    for j in 0..m {
-        let at = i * m + j;
-        bytes[at / 8] += weight(has_bit(f, j), 1 << (at % 8)) as u8;
+    let next = u32::from(row) % (1 << m);
+    Held {
+        at: held.at,
+        count: held.count + m,
+        bits: (next << held.count) + held.bits,
+    }
+}
+
+// Moves the lowest eight held bits into the bytes, where so many are held; the bytes are still those of the same rows.
+fn move_byte(held: Held, bytes: &mut [u8]) -> Held
+    requires room { 8 ≤ held.count → held.at < length bytes.old }
+    ensures kept { (w m : ℕ) (f : ℕ → ℕ) → Packing w m f held.at held.count held.bits bytes.old → Packing w m f result.at result.count result.bits bytes.new }
+    ensures total { 8 * result.at + result.count ≡ 8 * held.at + held.count }
+    ensures fewer { 8 ≤ held.count → result.count + 8 ≡ held.count }
+    ensures same { held.count < 8 → result.count ≡ held.count }
+{
+    if held.count < 8 {
+        return held;
+    }
+    bytes[held.at] = (held.bits % 256) as u8;
+    Held {
+        at: held.at + 1,
+        count: held.count - 8,
+        bits: held.bits >> 8,
     }
 }
 
@@ -31,27 +57,42 @@ pub fn pack(fs: &[u16], m: usize, bytes: &mut [u8])
     requires room { length bytes.old ≡ in_bytes (length fs.now * m) }
     ensures { bytes.new ≡ in_order (length fs.now) m (λ i. slice_index fs.now i) }
 {
-    bytes.fill(0);
-    // By number: row i lies from bit i * m on, and what is packed so far is said of all rows.
-    for i in 0..fs.len() {
-        pack_row(fs, m, i, bytes);
+    let mut held = Held {
+        at: 0,
+        count: 0,
+        bits: 0,
+    };
+    for f in fs {
+        let all = hold_row(held, *f, m);
+        let rest = move_byte(all, bytes);
+        held = move_byte(rest, bytes);
     }
+    if held.count == 0 {
+        return;
+    }
+    bytes[held.at] = held.bits as u8;
 }
 
-// The m bits from bit p on, as a number.
+// A byte, or 0 past the end.
+fn byte_at(bytes: &[u8], at: usize) -> u8
+    ensures value { result ≡ slice_index bytes.now at }
+    ensures within { result < 256 }
+{
+    if at < bytes.len() { bytes[at] } else { 0 }
+}
+
+// The m bits from bit p on, as a number: they stand in three bytes.
 fn unpack_row(bytes: &[u8], m: usize, p: usize) -> u16
     requires small { m ≤ 16 }
-    requires long { p + m ≤ 8 * length bytes.now }
     requires near { p ≤ 4096 }
     ensures { result ≡ number m (λ j. bit_at bytes.now (p + j)) }
 {
-    let mut f = 0;
-    // By number: bit j of the row is bit p + j of the bytes.
-    for j in 0..m {
-        let at = p + j;
-        f += weight((bytes[at / 8] >> (at % 8)) % 2 == 1, 1 << j);
-    }
-    f as u16
+    let at = p / 8;
+    let low = byte_at(bytes, at);
+    let middle = byte_at(bytes, at + 1);
+    let high = byte_at(bytes, at + 2);
+    let window = u32::from_le_bytes([low, middle, high, 0]);
+    ((window >> (p % 8)) % (1 << m)) as u16
 }
 
 // Reads the rows of m bits.

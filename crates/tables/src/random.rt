@@ -49,19 +49,34 @@ pub fn pick_all<L: Label, H: LabelHash<L>>(
     }
 }
 
-// r(i): s ⊕ the numbers of i at all n levels.
-fn mixed_at(s: u16, nums: &[u16], n: usize, i: usize) -> u16
-    requires few { n ≤ 8 }
-    requires long { 2 * 2 ^ n ≤ length nums.now }
-    ensures { result ≡ bit_xor s (mixed n (λ d. slice_index nums.now (2 ^ (n - d) + i % 2 ^ (n - d)))) }
+// One level more, of 2 w numbers: each of the first w numbers in fs is ⊕ed with both of the level's for it.
+fn add_level(nums: &[u16], w: usize, fs: &mut [u16])
+    requires few { w ≤ 128 }
+    requires numbers { 4 * w ≤ length nums.now }
+    requires room { 2 * w ≤ length fs.old }
+    ensures lower { (i : ℕ) → i < w → slice_index fs.new i ≡ bit_xor (slice_index fs.old i) (slice_index nums.now (2 * w + i)) }
+    ensures upper { (i : ℕ) → i < w → slice_index fs.new (w + i) ≡ bit_xor (slice_index fs.old i) (slice_index nums.now (3 * w + i)) }
 {
-    let mut r = s;
-    // By number: a level's place among the numbers is its power of two.
-    for d in 0..n {
-        let w = 1 << (n - d);
-        r ^= nums[w + (i & (w - 1))];
+    // By number: place i is written beside place w + i.
+    for i in 0..w {
+        let r = fs[i];
+        fs[i] = r ^ nums[2 * w + i];
+        fs[w + i] = r ^ nums[3 * w + i];
     }
-    r
+}
+
+// r(i) for each i: s ⊕ the numbers of i at all n levels.
+fn mix_levels(s: u16, nums: &[u16], n: usize, fs: &mut [u16])
+    requires few { n ≤ 8 }
+    requires numbers { 2 * 2 ^ n ≤ length nums.now }
+    requires places { length fs.old ≡ 2 ^ n }
+    ensures { (i : ℕ) → i < 2 ^ n → slice_index fs.new i ≡ bit_xor s (mixed n (λ d. slice_index nums.now (2 ^ (n - d) + i % 2 ^ (n - d)))) }
+{
+    fs[0] = s;
+    // By number: a level's place among the numbers is its power of two.
+    for l in 0..n {
+        add_level(nums, 1 << l, fs);
+    }
 }
 
 // f'(i) for each i.
@@ -73,7 +88,8 @@ pub fn mask_table(rows: &[u8], alpha: usize, s: u16, nums: &[u16], n: usize, fs:
     requires places { length fs.old ≡ 2 ^ n }
     ensures { EachIndex fs.new (λ i. slice_index fs.new i ≡ bit_xor (row_word rows.now (bit_xor i alpha)) (bit_xor s (mixed n (λ d. slice_index nums.now (2 ^ (n - d) + i % 2 ^ (n - d)))))) }
 {
+    mix_levels(s, nums, n, fs);
     for (i, f) in fs.iter_mut().enumerate() {
-        *f = table_row(rows, i ^ alpha) ^ mixed_at(s, nums, n, i);
+        *f = table_row(rows, i ^ alpha) ^ *f;
     }
 }

@@ -1,22 +1,13 @@
-use Rattle.std.proofs.Common.{arith, ◌+◌, pow_mono}
+use Rattle.std.proofs.Common.{ℕ, ◌/◌, ◌%◌, ◌^◌, ap, ◌∙◌, arith}
 use Rattle.std.proofs.lemmas.Nat.{one_shl}
-use Rattle.tables.specs.Material.{bit_at}
-use Rattle.tables.proofs.Numbering.{number_below}
+use Rattle.tables.proofs.Packing.{window_at}
 use Rattle.tables.proofs.pack.unpack_row.Goals as goal
 
-pub overflow_add-f : goal.overflow_add-f
-overflow_add-f c =
-    let j = c.loop-j.j in
-    let x = c.loop-j.invariant in
-    let one = one_shl j 64 (omega arith) in
-    let b = number_below j (λ j. bit_at c.args.bytes.now (c.args.p + j)) in
-    let p = pow_mono {i = j} {j = 16} (omega arith) in
-    omega arith
-
-pub overflow_cast-result : goal.overflow_cast-result
-overflow_cast-result c =
-    let j = c.loop-j.j in
-    let x = c.loop-j.invariant in
-    let b = number_below j (λ j. bit_at c.args.bytes.now (c.args.p + j)) in
-    let p = pow_mono {i = j} {j = 16} (omega arith) in
-    omega arith
+pub returns : goal.returns
+returns c =
+    let m = c.args.m in
+    let p = c.args.p in
+    let n : ℕ = c.from_le_bytes-window.result in
+    ap (λ k. n / 2 ^ (p % 8) % k) (one_shl m 32 (omega arith))
+    ∙ window_at c.args.bytes.now p m _ _ _ n c.byte_at-low.ensures.value c.byte_at-low.ensures.within c.byte_at-middle.ensures.value c.byte_at-middle.ensures.within
+    c.byte_at-high.ensures.value c.byte_at-high.ensures.within (omega arith) (omega arith)

@@ -1,8 +1,9 @@
-use Rattle.std.proofs.Common.{◌≡◌, ℕ, ◌+◌, ◌-◌, ◌%◌, ◌^◌, ◌<◌, get_or}
+use Rattle.std.proofs.Common.{◌≡◌, ℕ, ◌<◌, ◌≤◌, get_or}
 use lib.Bits.{bit_xor}
 use Rattle.tables.specs.Material.{row_word}
-use Rattle.tables.specs.Mixed.{mixed}
 use Rattle.tables.proofs.random.mask_table.Given as goal
 
 abbrev pub invariant-loop-i : goal.invariant-loop-i
-invariant-loop-i l = (k : ℕ) → k < l.i → get_or l.fs k 0 ≡ bit_xor (row_word l.rows (bit_xor k l.alpha)) (bit_xor l.s (mixed l.n (λ d. get_or l.nums (2 ^ (l.n - d) + k % 2 ^ (l.n - d)) 0)))
+invariant-loop-i l =
+    ((k : ℕ) → k < l.i → get_or l.fs k 0 ≡ bit_xor (row_word l.rows (bit_xor k l.alpha)) (get_or l.initial.fs k 0))
+    × ((k : ℕ) → l.i ≤ k → get_or l.fs k 0 ≡ get_or l.initial.fs k 0)

@@ -1,7 +1,11 @@
-use Rattle.std.proofs.Common.{get_or, length}
-use Rattle.tables.specs.Level.{Holds}
+use Rattle.std.proofs.Common.{◌≡◌, get_or, length}
+use Rattle.tables.specs.Level.{Sorted, Holds}
 use Rattle.tables.specs.Table.{places, chosen}
 use Rattle.tables.proofs.wires.choose.Given as goal
 
 abbrev pub invariant-loop-j : goal.invariant-loop-j
-invariant-loop-j g l = let K = g.L.Label.kind in Holds K l.j (λ j. chosen K j (length l.v) (λ i. get_or l.fs i 0) (places K l.v)) l.new
+invariant-loop-j g l =
+    let K = g.L.Label.kind in
+    Holds K l.j (λ j. chosen K j (length l.v) (λ i. get_or l.nums i 0) (places K l.v)) l.new
+    × Sorted K l.j (length l.v) (λ i. get_or l.nums i 0) (places K l.v) l.buckets
+    × (length l.buckets ≡ 64)

@@ -1,6 +1,0 @@
-use Rattle.std.proofs.Common.{◌+◌, ◌*◌, length, get_or}
-use Rattle.tables.specs.Level.{Packing}
-use Rattle.tables.proofs.pack.pack_row.Given as goal
-
-abbrev pub invariant-loop-j : goal.invariant-loop-j
-invariant-loop-j l = Packing (length l.fs) l.m (λ i. get_or l.fs i 0) (l.i * l.m + l.j) l.bytes

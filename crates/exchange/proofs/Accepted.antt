@@ -1,6 +1,5 @@
 -- No call of a whole settlement is refused. Assumes nothing.
-use Rattle.std.proofs.Common.{◌≡◌, ℕ, suc, ◌+◌, ◌*◌, ◌<◌, ◌≤◌, Bool, true, false, not, ◌&&◌, ◌||◌, eqb, leb, ltb, List, [], ◌∷◌, length, get_or, Some, None, Ok, Err, Option, Result, IfErr, sym, refl, ap, ◌∙◌, ap₂, arith}
-use Rattle.std.specs.Result.{IsOk}
+use Rattle.std.proofs.Common.{◌≡◌, ℕ, suc, ◌+◌, ◌*◌, ◌<◌, ◌≤◌, Bool, true, false, not, ◌&&◌, ◌||◌, eqb, leb, ltb, List, [], ◌∷◌, length, get_or, None, Option, refl, ap, ◌∙◌, ap₂, arith}
 use Rattle.std.specs.Prelude.{cond}
 use Rattle.std.proofs.lemmas.Bool.{lt-ltb, le-ltb, eq-eqb, lt-leb}
 use Rattle.labels.specs.Kind.{Kind}
@@ -16,7 +15,6 @@ use Rattle.wires.proofs.Made.{rises}
 use Rattle.parties.specs.declared.side.Side.{Side}
 use Rattle.parties.specs.declared.state.State.TheVariants.{Collecting, Evaluating, Finished}
 use Rattle.parties.specs.declared.state.Call.TheVariants.{Deliver, Evaluate, Decode}
-use Rattle.parties.specs.Side.{unused}
 use Rattle.parties.specs.Marks.{is_marked, all_marked}
 use Rattle.parties.specs.Turns.{is_its, gates_left}
 use Rattle.parties.specs.States.{allowed}

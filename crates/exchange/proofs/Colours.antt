@@ -1,16 +1,12 @@
 -- The colours that the garbler shows are bits. Assumes nothing.
-use Rattle.std.proofs.Common.{◌≡◌, ℕ, ◌<◌, Bool, true, false, eqb, List, length, get_or, refl, ap, ◌∙◌, arith}
-use Rattle.labels.specs.Kind.{Kind, differs}
-use Rattle.labels.specs.Numbers.{digit}
+use Rattle.std.proofs.Common.{◌≡◌, ℕ, ◌<◌, true, List, length, get_or, arith}
+use Rattle.labels.specs.Kind.{Kind}
 use Rattle.circuit.specs.Words.{word_at, all_below}
 use Rattle.circuit.proofs.Bounds.{below_all}
-use Rattle.memory.specs.Outputs.{colour_at, colours_of, decoded_at, decoded_of}
+use Rattle.memory.specs.Outputs.{colour_at, colours_of}
 use Rattle.tables.specs.Table.{places}
+use Rattle.settlement.proofs.AlikeBits.{digit_low}
 use Rattle.tables.proofs.Packing.{length_listed, get_or_listed}
-
-digit_small : (b : Bool) → digit b < 2
-digit_small true = omega arith
-digit_small false = omega arith
 
 module _ {L : Type 0} (K : Kind L) (zeros : List L) (list : List ℕ) (n : ℕ) where
   pub colours_long : length (colours_of K zeros list n) ≡ n
@@ -24,5 +20,5 @@ module _ {L : Type 0} (K : Kind L) (zeros : List L) (list : List ℕ) (n : ℕ) 
   colours_small =
       below_all (λ i. get_or (colours_of K zeros list n) i 0) n 2 (λ o h.
       let e = at o h in
-      let s = digit_small (K.colour (places K zeros (word_at list o))) in
+      let s = digit_low (K.colour (places K zeros (word_at list o))) in
       omega arith)

@@ -1,5 +1,5 @@
 -- What a whole settlement leaves. Assumes nothing.
-use Rattle.std.proofs.Common.{◌≡◌, ℕ, zero, suc, ◌+◌, ◌*◌, ◌-◌, ◌<◌, ◌≤◌, ◌&&◌, Bool, true, false, cond, eqb, ltb, List, length, take, None, get_or, refl, sym, ap, ap₂, ◌∙◌, subst, inl, inr, arith}
+use Rattle.std.proofs.Common.{◌≡◌, ℕ, zero, suc, ◌+◌, ◌*◌, ◌-◌, ◌<◌, ◌≤◌, Bool, true, cond, eqb, ltb, List, None, get_or, refl, sym, ap, ◌∙◌, inl, inr, arith}
 use Rattle.std.specs.Prelude.{slice_index}
 use Rattle.std.proofs.lemmas.Bool.{cases_eq, cases_lt, lt-ltb, le-ltb, eq-eqb, ne_eqb}
 use Rattle.std.proofs.lemmas.List.{take_all}
@@ -13,7 +13,7 @@ use Rattle.circuit.specs.Gates.{output_of, made_before, wires_in}
 use Rattle.circuit.specs.Check.{circuit_refusal, bytes_in}
 use Rattle.plain.specs.Plain.{bit_in, plain_bit}
 use Rattle.steps.specs.Gate.{garble_calls, evaluate_calls}
-use Rattle.steps.specs.Whole.{zero_label, label, material_before}
+use Rattle.steps.specs.Whole.{zero_label, input_label, label, material_before}
 use Rattle.tables.specs.Table.{places}
 use Rattle.memory.specs.Copy.{open_copy}
 use Rattle.laws.specs.Ordered.{Ordered}
@@ -24,19 +24,18 @@ use Rattle.parties.specs.declared.side.Side.{Side}
 use Rattle.parties.specs.Marks.{is_marked}
 use Rattle.settlement.specs.State.{State}
 use Rattle.settlement.specs.Lines.{call_at, line_at, is_accepted}
-use Rattle.settlement.specs.Runs.{Settlement, Ran}
+use Rattle.settlement.specs.Runs.{Settlement}
 use Rattle.settlement.specs.Claims.{noted, accepted_at, given, bit_of, garbler_made, evaluator_made, Claims, LineClaims}
 use Rattle.settlement.specs.declared.call.Call.{Call}
-use Rattle.settlement.specs.declared.call.Call.TheVariants.{Garble, Encode, Deliver, Evaluate, Colours, Decode, Certify}
-use Rattle.settlement.specs.declared.line.Line.{Line}
+use Rattle.settlement.specs.declared.call.Call.TheVariants.{Encode}
 use Rattle.settlement.specs.declared.line.Answer.{Answer}
 use Rattle.settlement.specs.declared.line.Answer.TheVariants.{Garbled, Encoded, Delivered, Evaluated, Coloured, Decoded, Certified}
 use Rattle.settlement.proofs.Circuits.{outputs_made}
-use Rattle.exchange.specs.Course.{calls_in, by_turn, course, course_line, given_label, bits_at, bytes_at}
+use Rattle.exchange.specs.Course.{calls_in, by_turn, course_line, bits_at, bytes_at}
 use Rattle.exchange.proofs.Marks.{marks_below, is_below}
 use Rattle.exchange.proofs.Copies.{inputs_copy, wires_copy, gates_copy}
 use Rattle.exchange.proofs.Turns.{at_encode, at_deliver, at_garble, at_evaluate, at_colours, at_decode, at_certify, unnoted, each_turn}
-use Rattle.exchange.proofs.Stages.{Stage, Whole}
+use Rattle.exchange.proofs.Stages.{Whole}
 use Rattle.exchange.proofs.Phases.{Course, encodes, delivers, garbles, evaluates, coloured, ends, encode_answers, deliver_answers, garble_answers, evaluate_answers, certifies, certify_leaves, certify_answers, colours_answer, decode_answer}
 
 module _ {L : Type 0} (K : Kind L) (r : Settlement L) (bits : List ℕ) (h : Course K r bits)
@@ -178,7 +177,7 @@ module _ {L : Type 0} (K : Kind L) (r : Settlement L) (bits : List ℕ) (h : Cou
   encode_line i l =
       let s = encodes K r bits h (suc i) l in
       let d = (lines i (omega arith)).encodes i (get_or bits i 0) _ (h.calls i (omega arith) ∙ at_encode c.sizes _ _ _ _ _ _ _ i l) (encode_answers K r bits h i l) in
-      line_from i 0 0 (Encoded (given_label K F seed c bits i)) (r.at (suc i)) (omega arith)
+      line_from i 0 0 (Encoded (input_label K F seed c (bit_in bits) i)) (r.at (suc i)) (omega arith)
       (encode_answers K r bits h i l ∙ ap Encoded (d ∙ ap (λ (Δ : L). K.xor (zero_label K F seed c i) (times K (bit_in bits i) Δ)) h.ran.begun.offset_is))
       s.garbler_count s.evaluator_count refl
       (at_encode c.sizes _ _ _ _ _ _ _ i l) (at_encode c.sizes _ _ _ _ _ _ _ i l) (at_encode c.sizes _ _ _ _ _ _ _ i l)

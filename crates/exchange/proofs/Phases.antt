@@ -1,11 +1,10 @@
 -- A whole settlement, call by call. Assumes nothing.
-use Rattle.std.proofs.Common.{◌≡◌, ◌≢◌, ℕ, zero, suc, ◌+◌, ◌*◌, ◌<◌, ◌≤◌, true, eqb, List, length, None, get_or, sym, refl, ap, ◌∙◌, subst, arith}
-use Rattle.labels.specs.Kind.{Kind, times}
-use Rattle.circuit.specs.Words.{all_below}
+use Rattle.std.proofs.Common.{◌≡◌, ◌≢◌, ℕ, zero, suc, ◌+◌, ◌*◌, ◌<◌, ◌≤◌, true, List, get_or, ◌∙◌, subst, arith}
+use Rattle.labels.specs.Kind.{Kind}
 use Rattle.circuit.specs.Parts.{Parts, parts_of}
 use Rattle.circuit.specs.Gates.{form_of}
 use Rattle.circuit.specs.Material.{gate_bits, gate_bytes}
-use Rattle.circuit.specs.Check.{circuit_refusal, bytes_in}
+use Rattle.circuit.specs.Check.{bytes_in}
 use Rattle.circuit.specs.declared.refusal.Refusal.TheVariants.{Foreign}
 use Rattle.memory.specs.Copy.{open_copy}
 use Rattle.garbler.specs.Garbling.{encoded}
@@ -13,7 +12,6 @@ use Rattle.settlement.specs.Lines.{call_at, line_at}
 use Rattle.settlement.specs.Runs.{Settlement, Step, Ran}
 use Rattle.settlement.specs.declared.call.Call.{Call}
 use Rattle.settlement.specs.declared.call.Call.TheVariants.{Garble, Encode, Deliver, Evaluate, Colours, Decode, Certify}
-use Rattle.settlement.specs.declared.line.Answer.{Answer}
 use Rattle.settlement.specs.declared.line.Answer.TheVariants.{Refused, Garbled, Encoded, Delivered, Evaluated, Coloured, Decoded}
 use Rattle.settlement.specs.State.{State}
 use Rattle.exchange.specs.Course.{calls_in, course}

@@ -1,5 +1,5 @@
 -- A whole settlement from its promise. Assumes nothing.
-use Rattle.std.proofs.Common.{◌≡◌, ℕ, ◌<◌, ◌≤◌, ◌||◌, Bool, true, false, not, ltb, eqb, List, [], ◌∷◌, length, get_or, slice_index, Some, None, Option, refl, sym, ap, ap₂, ◌∙◌, subst, arith}
+use Rattle.std.proofs.Common.{◌≡◌, ℕ, ◌<◌, ◌≤◌, ◌||◌, Bool, true, false, not, ltb, eqb, List, [], ◌∷◌, length, get_or, slice_index, Some, None, Option, refl, sym, ap, ◌∙◌, subst, arith}
 use Rattle.std.proofs.lemmas.Bool.{le-ltb, eqb-true}
 use Rattle.labels.specs.Kind.{Kind}
 use Rattle.circuit.specs.Words.{all_below}
@@ -8,13 +8,12 @@ use Rattle.circuit.specs.Gates.{wires_in}
 use Rattle.circuit.specs.Check.{circuit_refusal, bytes_in}
 use Rattle.circuit.specs.Refusals.{first_of, or_else}
 use Rattle.circuit.specs.declared.refusal.Refusal.{Refusal}
-use Rattle.circuit.specs.declared.refusal.Refusal.TheVariants.{Turn, Memory, Bit}
+use Rattle.circuit.specs.declared.refusal.Refusal.TheVariants.{Memory, Bit}
 use Rattle.circuit.proofs.Bounds.{each_below}
 use Rattle.circuit.proofs.Checks.{or_else_none}
 use Rattle.plain.specs.Plain.{plain_refusal}
 use Rattle.memory.specs.Copy.{open_copy, copy_refusal}
 use Rattle.laws.proofs.Opening.{passes_open}
-use Rattle.tables.specs.Material.{listed}
 use Rattle.tables.proofs.Packing.{length_listed, get_or_listed}
 use Rattle.parties.specs.declared.side.Side.{Side}
 use Rattle.parties.specs.Side.{unused}
@@ -22,18 +21,19 @@ use Rattle.tables.specs.Table.{places}
 use Rattle.settlement.specs.declared.lent.Lent.{Lent}
 use Rattle.parties.specs.Refusing.{open_refusal, join_refusal}
 use Rattle.settlement.specs.State.{State}
-use Rattle.settlement.specs.Lines.{call_at}
 use Rattle.settlement.specs.Runs.{Settlement, Ran}
 use Rattle.settlement.specs.Claims.{Claims, LineClaims}
-use Rattle.settlement.specs.Settled.{Room, settle_refusal}
-use Rattle.settlement.specs.Ended.{room_of, Ended}
+use Rattle.settlement.specs.Refused.{settle_refusal}
+use Rattle.settlement.specs.Refused.{room_of}
+use Rattle.settlement.specs.Settled.{Ended}
 use Rattle.settlement.specs.declared.call.Call.{Call}
 use Rattle.settlement.specs.declared.call.Call.TheVariants.{Garble}
 use Rattle.settlement.specs.declared.line.Line.{Line}
 use Rattle.settlement.specs.declared.past.Past.{Past}
 use Rattle.settlement.proofs.Circuits.{inputs_few}
+use Rattle.settlement.proofs.Facts.{two_passed, not_false}
 use Rattle.exchange.specs.Course.{calls_in, course}
-use Rattle.exchange.specs.Planned.{calls_of, Planned}
+use Rattle.exchange.specs.Planned.{Planned}
 use Rattle.exchange.specs.Outcome.{Outcome}
 use Rattle.exchange.proofs.Copies.{wires_copy}
 use Rattle.exchange.proofs.Stages.{Enough, Whole}
@@ -41,15 +41,6 @@ use Rattle.exchange.proofs.Phases.{Course, ends as ends_whole}
 use Rattle.exchange.proofs.Done.{zeros_end, labels_end, material_end, outputs_end, lines_end}
 
 -- the bits of an accepted plain evaluation are bits, one for each input
-one_false : (a b : Bool) (x y : Refusal) → first_of ((a, x) ∷ (b, y) ∷ []) ≡ None → (a ≡ false) × (b ≡ false)
-one_false true b x y e = absurd (let z : ◌≡◌ {A = ℕ} 0 1 = cc in omega arith)
-one_false false true x y e = absurd (let z : ◌≡◌ {A = ℕ} 0 1 = cc in omega arith)
-one_false false false x y e = (refl, refl)
-
-not_false : (a : Bool) → not a ≡ false → a ≡ true
-not_false true e = refl
-not_false false e = sym e
-
 none_met : (a b d : Bool) → (a || (not b || d)) ≡ false → b ≡ true
 none_met true b d e = absurd (let z : ◌≡◌ {A = ℕ} 0 1 = cc in omega arith)
 none_met false true d e = refl
@@ -60,7 +51,7 @@ module _ (bytes bits : List ℕ) (w o : ℕ) (free : plain_refusal bytes bits w 
   d = parts_of bytes
 
   tests : ((ltb w (wires_in d) || (not (eqb (length bits) d.sizes.inputs) || not (eqb o d.sizes.outputs))) ≡ false) × (not (all_below (λ i. get_or bits i 0) (length bits) 2) ≡ false)
-  tests = one_false _ _ Memory Bit (or_else_none (circuit_refusal bytes) _ free).1
+  tests = two_passed _ _ Memory Bit (or_else_none (circuit_refusal bytes) _ free).1
 
   bits_long : length bits ≡ d.sizes.inputs
   bits_long = eqb-true (length bits) d.sizes.inputs (none_met (ltb w (wires_in d)) (eqb (length bits) d.sizes.inputs) (not (eqb o d.sizes.outputs)) tests.0)
@@ -200,8 +191,7 @@ module _ {L : Type 0} (K : Kind L) (F : L → ℕ → L) (bytes seed bits copy :
   pub only_opening : settle_refusal K F bytes seed garbler evaluator (length lent.zeros.now) (length lent.labels.now) (room_of (length calls) (length lines) (length lent.sent.now) (length copy)) ≡ opening
   unfolding settle_refusal
   only_opening =
-      let free = or_else_none (first_of ((ltb (length lines) (length calls) || ltb (length lent.sent.now) 256, Memory) ∷ [])) (copy_refusal bytes (length copy)) own_free in
       (λ i. settle_refusal K F bytes seed (plan.garbler_new i) (plan.evaluator_new i) (length lent.zeros.now) (length lent.labels.now) (room_of (length calls) (length lines) (length lent.sent.now) (length copy)))
-      ∙ ap₂ (λ (x y : Option Refusal). or_else x (or_else y (or_else (open_refusal unused bytes K F (length lent.zeros.now) seed) (join_refusal unused (open_copy bytes) (length lent.labels.now))))) free.0 free.1
+      ∙ ap (λ (x : Option Refusal). or_else x (or_else (open_refusal unused bytes K F (length lent.zeros.now) seed) (join_refusal unused (open_copy bytes) (length lent.labels.now)))) own_free
       ∙ or_none (open_refusal unused bytes K F (length lent.zeros.now) seed) _ join_free
       ∙ ap (λ (w : ℕ). open_refusal unused bytes K F w seed) plan.zeros_long

@@ -1,5 +1,5 @@
 -- One call more of a whole settlement is accepted. Assumes nothing.
-use Rattle.std.proofs.Common.{◌≡◌, ◌≢◌, ℕ, suc, ◌+◌, ◌*◌, ◌<◌, ◌≤◌, ◌||◌, Bool, true, false, leb, List, [], ◌∷◌, ◌++◌, length, take, drop, Some, None, Option, get_or, refl, sym, ap, ap₂, ◌∙◌, subst, arith}
+use Rattle.std.proofs.Common.{◌≡◌, ◌≢◌, ℕ, suc, ◌+◌, ◌*◌, ◌<◌, ◌≤◌, Bool, true, false, leb, List, [], ◌∷◌, ◌++◌, length, take, drop, Some, None, Option, get_or, refl, sym, ap, ap₂, ◌∙◌, subst, arith}
 use Rattle.std.proofs.lemmas.List.{length-take-le, take_at}
 use Rattle.labels.specs.Kind.{Kind}
 use Rattle.hashes.specs.Count.{counted}
@@ -21,14 +21,15 @@ use Rattle.parties.specs.Marks.{is_marked}
 use Rattle.parties.specs.Refusing.{is_foreign, decode_refusal, certify_refusal}
 use Rattle.garbler.specs.Garbling.{encoded}
 use Rattle.settlement.specs.State.{State}
-use Rattle.settlement.specs.Stands.{stands, refusal, is_shown, colours_by, output_label}
+use Rattle.settlement.specs.Stands.{refusal, is_shown, colours_by, output_label}
 use Rattle.settlement.specs.Accepted.{Accepted}
-use Rattle.settlement.specs.Claims.{SameLengths}
+use Rattle.settlement.specs.Alike.{SameLengths}
 use Rattle.settlement.specs.Runs.{Step}
 use Rattle.settlement.specs.declared.call.Call.{Call}
 use Rattle.settlement.specs.declared.call.Call.TheVariants.{Garble, Encode, Deliver, Evaluate, Colours, Decode, Certify}
 use Rattle.settlement.specs.declared.line.Answer.{Answer}
 use Rattle.settlement.specs.declared.line.Answer.TheVariants.{Refused, Garbled, Encoded, Delivered, Evaluated, Coloured, Decoded, Certified}
+use Rattle.settlement.proofs.Certifying.{or_true}
 use Rattle.settlement.proofs.AlikeLengths.{accepted_lengths}
 use Rattle.exchange.proofs.Marks.{is_below}
 use Rattle.exchange.proofs.Reached.{reached, marks_on, steps_on}
@@ -44,10 +45,6 @@ add_assoc a b d = omega arith
 
 at_least : (a b : ℕ) → a ≡ b → b ≤ a
 at_least a b e = omega arith
-
-or_true : (a b : Bool) → b ≡ true → (a || b) ≡ true
-or_true true b e = refl
-or_true false b e = e
 
 pub record IsCertified {L : Type 0} (a : Answer L) : Type 0 where
   pub bit : Bool

@@ -1,8 +1,7 @@
 -- The calls of a whole settlement, and what comes of each. Assumes nothing.
 use Rattle.std.specs.Prelude.{ℕ, ◌+◌, ◌*◌, ◌-◌, cond, ◌==◌, nat_lt, List, slice_index}
-use Rattle.labels.specs.Kind.{Kind, times}
+use Rattle.labels.specs.Kind.{Kind}
 use Rattle.hashes.specs.Count.{counted}
-use Rattle.hashes.specs.Draws.{offset}
 use Rattle.circuit.specs.Words.{sum_below}
 use Rattle.circuit.specs.Parts.{Parts}
 use Rattle.circuit.specs.Gates.{form_of, output_of}
@@ -10,7 +9,7 @@ use Rattle.circuit.specs.Material.{gate_bits, gate_bytes}
 use Rattle.circuit.specs.declared.sizes.Sizes.{Sizes}
 use Rattle.plain.specs.Plain.{bit_in, plain_bit}
 use Rattle.steps.specs.Gate.{garble_calls, evaluate_calls}
-use Rattle.steps.specs.Whole.{zero_label}
+use Rattle.steps.specs.Whole.{input_label}
 use Rattle.settlement.specs.declared.call.Call.{Call}
 use Rattle.settlement.specs.declared.call.Call.TheVariants.{Garble, Encode, Deliver, Evaluate, Colours, Decode, Certify}
 use Rattle.settlement.specs.declared.line.Line.{Line}
@@ -39,9 +38,6 @@ module _ (s : Sizes) where
 
 -- The line of call k: the label of the input's bit, the gate's bits and bytes, or the output's plain bit; and both counts.
 module _ {L : Type 0} (K : Kind L) (F : L → ℕ → L) (seed : L) (c : Parts) (bits : List ℕ) where
-  abbrev pub given_label : ℕ → L
-  given_label i = K.xor (zero_label K F seed c i) (times K (bit_in bits i) (offset F seed K))
-
   abbrev pub bits_at : ℕ → ℕ
   bits_at g = gate_bits (8 * K.width) (form_of c g)
 
@@ -57,7 +53,7 @@ module _ {L : Type 0} (K : Kind L) (F : L → ℕ → L) (seed : L) (c : Parts) 
 
   abbrev pub course_line : ℕ → Line L
   course_line k = record {
-    answer = by_turn c.sizes k (λ i. Encoded (given_label i)) (λ i. Delivered) (λ g. Garbled (bits_at g) (bytes_at g)) (λ g. Evaluated (bytes_at g)) Coloured Decoded (λ o. Certified (plain_bit c (bit_in bits) (output_of c o)));
+    answer = by_turn c.sizes k (λ i. Encoded (input_label K F seed c (bit_in bits) i)) (λ i. Delivered) (λ g. Garbled (bits_at g) (bytes_at g)) (λ g. Evaluated (bytes_at g)) Coloured Decoded (λ o. Certified (plain_bit c (bit_in bits) (output_of c o)));
     garbler_count = counted 0 (1 + c.sizes.inputs + sum_below (garble_calls c) (garbled_by k));
     evaluator_count = counted 0 (sum_below (evaluate_calls c) (evaluated_by k));
   }

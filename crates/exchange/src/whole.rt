@@ -1,11 +1,12 @@
 // A whole settlement: settle, with the calls of one.
-ghost use Rattle.std.specs.Prelude.{◌≡◌, ℕ, List, not, length, Some, None, OnOk, IfErr};
+ghost use Rattle.std.specs.Prelude.{◌≡◌, ℕ, List, not, length, replicate, Some, None, OnOk, OnErr, IfErr};
 ghost use Rattle.circuit.specs.Parts.{parts_of};
 ghost use Rattle.circuit.specs.Gates.{wires_in};
 ghost use Rattle.parties.specs.Side.{unused};
 ghost use Rattle.parties.specs.Refusing.{open_refusal, wipe_refusal};
 ghost use Rattle.parties.specs.States.{state_of, allowed};
 ghost use Rattle.parties.specs.declared.state.Call.TheVariants.{Wipe};
+ghost use Rattle.settlement.specs.Refused.{room_of, settle_refusal};
 ghost use Rattle.exchange.specs.Planned.{Planned};
 ghost use Rattle.exchange.specs.Outcome.{Outcome};
 
@@ -32,6 +33,9 @@ pub fn run<L: Label, F: LabelFunction<L>>(
     calls: &[Call],
     lines: &mut [Line<L>],
 ) -> Result<(GarblerToken, EvaluatorToken), Refusal>
+    ensures cleared { seed.new ≡ replicate (length seed.old) 0 }
+    ensures judged { IfErr result (λ why. settle_refusal L.kind F.means circuit.now seed.old garbler.old.progress.side evaluator.old.progress.side (length lent.old.zeros.now) (length lent.old.labels.now) (room_of (length calls.now) (length lines.old) (length lent.old.sent.now) (length copy.old)) ≡ Some why) }
+    ensures unwritten { OnErr result (lines.new ≡ lines.old) }
     ensures outcome { OnOk result ((bits : List ℕ) → Planned L.kind circuit.now bits copy.old garbler.old.progress.side evaluator.old.progress.side lent.old calls.now lines.old → Outcome L.kind F.means (L.kind.from seed.old) (parts_of circuit.now) bits lent.new lines.new) }
     ensures opened { OnOk result ((bits : List ℕ) → Planned L.kind circuit.now bits copy.old garbler.old.progress.side evaluator.old.progress.side lent.old calls.now lines.old → open_refusal unused circuit.now L.kind F.means (wires_in (parts_of circuit.now)) seed.old ≡ None) }
     ensures garbler_wipes { OnOk result (wipe_refusal garbler.new.progress.side (not garbler.new.progress.side.ended) (length lent.new.zeros.now) ≡ None) }

@@ -1,5 +1,5 @@
 -- The text of a settlement that is done is that of the definitions. Assumes nothing.
-use Rattle.std.proofs.Common.{◌≡◌, ℕ, zero, suc, ◌+◌, ◌*◌, ◌-◌, ◌<◌, ◌≤◌, Bool, true, false, not, eqb, List, [], ◌∷◌, ◌++◌, length, get_or, codes, None, refl, sym, ap, ◌∙◌, ap₂, arith}
+use Rattle.std.proofs.Common.{◌≡◌, ℕ, zero, suc, ◌+◌, ◌*◌, ◌-◌, ◌<◌, ◌≤◌, Bool, true, false, not, eqb, List, [], ◌∷◌, ◌++◌, length, get_or, codes, None, refl, ap, ◌∙◌, ap₂, arith}
 use Rattle.std.specs.Prelude.{nat_eq, slice_index}
 use Rattle.std.proofs.lemmas.Bool.{eqb-true}
 use Rattle.labels.specs.Longs.{long}
@@ -13,17 +13,17 @@ use Rattle.circuit.specs.Refusals.{first_of}
 use Rattle.circuit.specs.declared.refusal.Refusal.TheVariants.{Memory}
 use Rattle.plain.proofs.Numbers.{number_same}
 use Rattle.laws.proofs.Lengths.{material_before_long}
-use Rattle.tables.specs.Material.{listed}
 use Rattle.tables.proofs.Packing.{length_listed, get_or_listed}
 use Rattle.settlement.specs.Lines.{call_at, line_at}
 use Rattle.settlement.specs.declared.call.Call.{Call}
 use Rattle.settlement.specs.declared.call.Call.TheVariants.{Garble}
 use Rattle.settlement.specs.declared.lent.Lent.{Lent}
 use Rattle.settlement.specs.declared.line.Line.{Line}
+use Rattle.settlement.proofs.Values.{digit_is}
 use Rattle.exchange.specs.Course.{calls_in, course}
 use Rattle.exchange.specs.Planned.{calls_of}
 use Rattle.exchange.specs.Outcome.{Outcome}
-use Rattle.listing.specs.Lines.{out_line, numbers}
+use Rattle.listing.specs.Lines.{out_line}
 use Rattle.listing.specs.Calls.{call_line, call_lines}
 use Rattle.listing.specs.Dividend.{count_bits, sixteen_refusal, settled_text, call_by, line_by, out_bit, last_line, settle_lines, tickets_line, size_line, counts_line, dividend_line}
 use Rattle.listing.proofs.Steps.{numbers_same}
@@ -36,10 +36,6 @@ lines_same a a' b b' (suc n) p q =
     let pn = p n (omega arith) in
     let qn = q n (omega arith) in
     ap₂ (λ (xs ys : List ℕ). xs ++ ys) front (λ i. call_line (pn i) (qn i))
-
-digit_one : (b : Bool) → eqb (digit b) 1 ≡ b
-digit_one true = refl
-digit_one false = refl
 
 met_not : (b : Bool) → first_of ((not b, Memory) ∷ []) ≡ None → b ≡ true
 met_not true e = refl
@@ -86,5 +82,5 @@ module _ (bytes seed : List ℕ) (first second : ℕ) (lent : Lent Long) (calls 
       let o : out_line (λ o. slice_index lent.outputs.now o) 16 ≡ out_line (λ o. digit (out_bit bytes seed first second o)) 16 =
       ap (λ (xs : List ℕ). codes "out " ++ (xs ++ codes "\n")) (numbers_same (λ o. slice_index lent.outputs.now o) (λ o. digit (out_bit bytes seed first second o)) 16 bit_is) in
       let d : number 16 (λ o. nat_eq (slice_index lent.outputs.now o) 1) ≡ number 16 (out_bit bytes seed first second) =
-      number_same 16 _ _ (λ k h. ap (λ (n : ℕ). eqb n 1) (bit_is k h) ∙ digit_one (out_bit bytes seed first second k)) in
+      number_same 16 _ _ (λ k h. ap (λ (n : ℕ). eqb n 1) (bit_is k h) ∙ digit_is (out_bit bytes seed first second k)) in
       (λ i. tickets_line first second ++ (a i ++ (size_line (m i) ++ (counts_line (last_is i).garbler_count (last_is i).evaluator_count ++ (o i ++ dividend_line (d i))))))

@@ -1,19 +1,10 @@
 -- How the refusals of a worksheet's input come about. Assumes nothing.
-use Rattle.std.proofs.Common.{◌≡◌, ℕ, ◌+◌, ◌-◌, ◌*◌, ◌<◌, ◌≤◌, Bool, true, false, not, ◌||◌, eqb, ltb, List, [], ◌∷◌, length, get_or, take, drop, Some, None, sym, refl, ◌∙◌, ap₂, arith}
-use Rattle.std.proofs.lemmas.Bool.{lt-ltb, le-ltb, eq-eqb, ne_eqb, eqb-true}
-use Rattle.std.proofs.lemmas.List.{get_or-take, length-drop, length-take-le}
-use Rattle.circuit.specs.Refusals.{first_of}
-use Rattle.circuit.specs.Words.{word_at, all_below}
+use Rattle.std.proofs.Common.{◌≡◌, ℕ, ◌+◌, ◌-◌, ◌<◌, ◌≤◌, true, false, eqb, ltb, List, length, drop, Some, None, arith}
+use Rattle.std.proofs.lemmas.Bool.{lt-ltb, le-ltb, eq-eqb, ne_eqb}
+use Rattle.std.proofs.lemmas.List.{length-drop, length-take-le}
 use Rattle.circuit.specs.Header.{sizes_of, within}
-use Rattle.circuit.specs.Parts.{parts_of}
-use Rattle.circuit.specs.Gates.{wires_in}
-use Rattle.circuit.specs.Check.{circuit_refusal}
-use Rattle.memory.specs.Seed.{blank}
-use Rattle.plain.specs.Plain.{plain_refusal}
-use Rattle.circuit.specs.declared.refusal.Refusal.{Refusal}
-use Rattle.circuit.specs.declared.refusal.Refusal.TheVariants.{Short, Size, Length, Memory, Bit, ZeroSeed}
-use Rattle.circuit.proofs.Checks.{or_else_none}
-use Rattle.listing.specs.Worksheet.{circuit_end, circuit_in, seed_in, bits_from, input_refusal, worksheet_refusal}
+use Rattle.circuit.specs.declared.refusal.Refusal.TheVariants.{Short, Size, Length}
+use Rattle.listing.specs.Worksheet.{circuit_end, seed_in, input_refusal}
 
 module _ (input : List ℕ) where
   pub input_short : length input < 10 → input_refusal input ≡ Some Short

@@ -1,6 +1,5 @@
 -- The lines of the memories are those of the definitions. Assumes nothing.
-use Rattle.std.proofs.Common.{◌≡◌, ℕ, zero, suc, ◌<◌, ◌≤◌, Bool, false, List, ◌++◌, length, get_or, take, codes, refl, ap, ◌∙◌, ap₂, arith}
-use Rattle.std.proofs.lemmas.List.{get_or-take, length-take-le}
+use Rattle.std.proofs.Common.{◌≡◌, ℕ, zero, suc, ◌<◌, Bool, false, List, ◌++◌, length, get_or, codes, refl, ap, ◌∙◌, ap₂, arith}
 use Rattle.labels.specs.Papers.{paper}
 use Rattle.labels.specs.declared.paper.Paper.{Paper}
 use Rattle.tables.specs.Table.{places}
@@ -15,7 +14,7 @@ use Rattle.circuit.specs.Parts.{parts_of}
 use Rattle.plain.specs.Plain.{bit_in, plain_bit}
 use Rattle.listing.specs.Lines.{out_line}
 use Rattle.listing.specs.Sheet.{offset_line, label_line, label_lines, material_line}
-use Rattle.listing.specs.Worksheet.{zero_on, label_on, all_material, sheet_of}
+use Rattle.listing.specs.Worksheet.{zero_on, label_on, sheet_of}
 use Rattle.listing.proofs.Steps.{numbers_same}
 
 abbrev Carry : ℕ → (ℕ → Paper) → List Paper → Type 0

@@ -1,10 +1,9 @@
 -- A settlement under long labels as text: a line for each call. Assumes nothing.
 use Rattle.std.specs.Prelude.{ℕ, zero, suc, ◌-◌, List, [], ◌++◌, codes, decimal, slice_index}
-use Rattle.labels.specs.Kind.{Kind}
 use Rattle.labels.specs.Longs.{long}
 use Rattle.labels.specs.Numbers.{digit}
 use Rattle.labels.specs.declared.long.Long.{Long}
-use Rattle.circuit.specs.Refusals.{number_of}
+use Rattle.circuit.specs.Refusals.{refusal_text}
 use Rattle.settlement.specs.declared.call.Call.{Call}
 use Rattle.settlement.specs.declared.call.Call.TheVariants.{Garble, Encode, Deliver, Evaluate, Colours, Decode, Certify}
 use Rattle.settlement.specs.declared.line.Line.{Line}
@@ -29,7 +28,7 @@ call_text (Certify output) = codes "certify " ++ decimal output
 -- what came of it
 abbrev pub answer_text : Answer Long → List ℕ
 answer_text NotMade = codes "not made"
-answer_text (Refused why) = codes "refused " ++ decimal (number_of why)
+answer_text (Refused why) = refusal_text why
 answer_text (Garbled bits bytes) = codes "garbled " ++ (decimal bits ++ (codes " bits " ++ (decimal bytes ++ codes " bytes")))
 answer_text (Encoded label) = codes "label " ++ hex_long label
 answer_text Delivered = codes "delivered"

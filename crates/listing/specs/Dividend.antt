@@ -4,7 +4,7 @@ use Rattle.labels.specs.Longs.{long}
 use Rattle.labels.specs.Numbers.{bit, digit, number}
 use Rattle.labels.specs.declared.long.Long.{Long}
 use Rattle.hashes.specs.AesHash.{aes_hash}
-use Rattle.circuit.specs.Parts.{Parts, parts_of}
+use Rattle.circuit.specs.Parts.{parts_of}
 use Rattle.circuit.specs.Gates.{output_of}
 use Rattle.circuit.specs.Check.{circuit_refusal, bytes_in}
 use Rattle.circuit.specs.Refusals.{first_of, or_else}
@@ -57,8 +57,8 @@ sixteen_refusal bytes = or_else (circuit_refusal bytes) (first_of ((not ((parts_
 
 -- what settle prints for a circuit, a seed and two counts
 module _ (bytes seed : List ℕ) (first second : ℕ) where
-  abbrev pub settle_refusal : Option Refusal
-  settle_refusal = or_else (sixteen_refusal bytes) (whole_refusal long aes_hash bytes seed (count_bits first second))
+  abbrev pub dividend_refusal : Option Refusal
+  dividend_refusal = or_else (sixteen_refusal bytes) (whole_refusal long aes_hash bytes seed (count_bits first second))
 
   -- call k and its line, by the rules
   abbrev pub call_by : ℕ → Call
@@ -86,4 +86,4 @@ module _ (bytes seed : List ℕ) (first second : ℕ) where
   text_unless None = settle_lines
 
   abbrev pub settle_text : List ℕ
-  settle_text = text_unless settle_refusal
+  settle_text = text_unless dividend_refusal

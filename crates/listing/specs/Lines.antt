@@ -1,7 +1,7 @@
 -- Lines of text, as bytes. Assumes nothing.
 use Rattle.std.specs.Prelude.{ℕ, zero, suc, Bool, List, [], ◌++◌, codes, decimal}
 use Rattle.labels.specs.Numbers.{digit}
-use Rattle.circuit.specs.Refusals.{number_of}
+use Rattle.circuit.specs.Refusals.{refusal_text}
 use Rattle.circuit.specs.declared.refusal.Refusal.{Refusal}
 
 -- a wire's line: its number and its bit
@@ -23,4 +23,4 @@ abbrev pub out_line : (ℕ → ℕ) → ℕ → List ℕ
 out_line f n = codes "out " ++ (numbers f n ++ codes "\n")
 
 abbrev pub refused_line : Refusal → List ℕ
-refused_line why = codes "refused " ++ (decimal (number_of why) ++ codes "\n")
+refused_line why = refusal_text why ++ codes "\n"

@@ -1,6 +1,7 @@
 // The end of a settlement.
 ghost use Rattle.std.specs.Prelude.{◌≡◌, not, length, None};
 ghost use Rattle.parties.specs.Refusing.{wipe_refusal};
+ghost use Rattle.parties.specs.Side.{unused};
 ghost use Rattle.parties.specs.States.{state_of, allowed};
 ghost use Rattle.parties.specs.declared.state.Call.TheVariants.{Wipe};
 
@@ -18,6 +19,8 @@ pub fn wipe_both<L: Label>(
 )
     requires garbler { wipe_refusal garbler.old.progress.side (not garbler.old.progress.side.ended) (length lent.old.zeros.now) ≡ None }
     requires evaluator { wipe_refusal evaluator.old.progress.side (allowed (state_of evaluator.old.progress.side) Wipe) (length lent.old.labels.now) ≡ None }
+    ensures garbler_ended { garbler.new.progress.side ≡ unused }
+    ensures evaluator_ended { evaluator.new.progress.side ≡ unused }
 {
     let (garbler_token, evaluator_token) = tokens;
     garbler.wipe(garbler_token, lent.zeros).unwrap();

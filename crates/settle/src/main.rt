@@ -6,6 +6,7 @@ use listing::dividend::settle_text;
 use std::{env, fs};
 
 const USAGE: &str = "usage: settle CIRCUIT FIRST SECOND SEED";
+
 const MOST: &str = "a ticket count is a number of at most 127";
 
 // A ticket count of at most seven bits.

@@ -8,7 +8,8 @@ use Rattle.memory.specs.Copy.{open_copy}
 use Rattle.parties.specs.Side.{started}
 use Rattle.settlement.specs.Lines.{call_at, line_at, bare}
 use Rattle.settlement.specs.Runs.{Settlement, Ran}
-use Rattle.settlement.specs.Claims.{given, SameLengths, Alike, SameLine}
+use Rattle.settlement.specs.Claims.{given}
+use Rattle.settlement.specs.Alike.{SameLengths, Alike, SameLine}
 use Rattle.settlement.proofs.AlikeCalls.{SameSides, CertifyPublic, call_same}
 use Rattle.settlement.proofs.Certifying.{certify_public}
 use Rattle.settlement.proofs.Theorem.{colours_offset, tied_at}

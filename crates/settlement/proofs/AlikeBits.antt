@@ -25,7 +25,7 @@ AreBits s = all_below (λ i. slice_index (colours_by s.shown s.colours) i) (leng
 pub none_bits : {L : Type 0} (s : State L) → s.shown ≡ None → AreBits s
 none_bits s e = rw e refl
 
-digit_low : (b : Bool) → digit b < 2
+pub digit_low : (b : Bool) → digit b < 2
 digit_low true = omega arith
 digit_low false = omega arith
 

@@ -23,7 +23,7 @@ use Rattle.settlement.specs.Lines.{bare}
 use Rattle.settlement.specs.Stands.{is_shown, colours_by, stands, refusal}
 use Rattle.settlement.specs.Accepted.{Accepted}
 use Rattle.settlement.specs.Runs.{Step}
-use Rattle.settlement.specs.Claims.{SameCall, SameLengths}
+use Rattle.settlement.specs.Alike.{SameCall, SameLengths}
 use Rattle.settlement.specs.declared.call.Call.{Call}
 use Rattle.settlement.specs.declared.call.Call.TheVariants.{Garble, Encode, Deliver, Evaluate, Colours, Decode, Certify}
 use Rattle.settlement.specs.declared.line.Answer.{Answer}

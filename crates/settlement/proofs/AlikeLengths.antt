@@ -14,7 +14,7 @@ use Rattle.settlement.specs.State.{State}
 use Rattle.settlement.specs.Stands.{refusal, input_label}
 use Rattle.settlement.specs.Accepted.{Accepted}
 use Rattle.settlement.specs.Runs.{Step}
-use Rattle.settlement.specs.Claims.{SameLengths}
+use Rattle.settlement.specs.Alike.{SameLengths}
 use Rattle.settlement.specs.declared.call.Call.{Call}
 use Rattle.settlement.specs.declared.call.Call.TheVariants.{Garble, Encode, Deliver, Evaluate, Colours, Decode, Certify}
 use Rattle.settlement.specs.declared.line.Answer.{Answer}

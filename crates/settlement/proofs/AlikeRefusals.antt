@@ -14,7 +14,7 @@ use Rattle.parties.specs.declared.side.Side.{Side}
 use Rattle.parties.specs.Marks.{is_marked}
 use Rattle.parties.specs.Turns.{is_its}
 use Rattle.parties.specs.Refusing.{turn_refusal, step_refusal, input_refusal, output_refusal, outputs_refusal}
-use Rattle.settlement.specs.Claims.{SameButRows}
+use Rattle.settlement.specs.Alike.{SameButRows}
 
 abbrev with_rows : Parts → List ℕ → Parts
 with_rows c rows = record {

@@ -12,7 +12,6 @@ use Rattle.circuit.proofs.Checks.{or_else_none}
 use Rattle.circuit.specs.declared.refusal.Refusal.{Refusal}
 use Rattle.circuit.specs.declared.refusal.Refusal.TheVariants.{Bit, Again}
 use Rattle.parties.specs.Marks.{is_marked}
-use Rattle.tables.specs.Table.{places}
 use Rattle.steps.specs.Gate.{evaluate_calls}
 use Rattle.memory.specs.Copy.{open_copy}
 use Rattle.memory.specs.Outputs.{colours_of, decoded_of}

@@ -36,7 +36,7 @@ flipped : {X : Type 0} (p : Bool) → p ≡ differs p true → X
 flipped true e = true_false true refl e
 flipped false e = true_false true refl (sym e)
 
-or_true : (a b : Bool) → b ≡ true → (a || b) ≡ true
+pub or_true : (a b : Bool) → b ≡ true → (a || b) ≡ true
 or_true true b e = refl
 or_true false b e = e
 

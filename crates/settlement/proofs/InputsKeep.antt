@@ -1,18 +1,15 @@
 -- Encode and deliver keep the tie. Assumes nothing.
-use Rattle.std.proofs.Common.{◌≡◌, ℕ, suc, ◌+◌, ◌<◌, Bool, true, false, cond, not, eqb, leb, ltb, List, length, set, None, refl, sym, ap, ap₂, ◌∙◌, subst, inl, inr, arith}
+use Rattle.std.proofs.Common.{◌≡◌, ℕ, ◌<◌, Bool, true, false, cond, not, eqb, leb, ltb, List, length, set, None, refl, sym, ap, ap₂, ◌∙◌, subst, inl, inr, arith}
 use Rattle.std.proofs.lemmas.Bool.{cases_Bool, cases_eq, lt-ltb, eq-eqb, ne_eqb}
 use Rattle.std.proofs.lemmas.Bool.Decides.{nat_tests}
 use Rattle.std.proofs.lemmas.List.{length-set, get_or-set_same, get_or-set_other}
 use Rattle.labels.specs.Kind.{Kind, times}
-use Rattle.hashes.specs.Draws.{offset}
 use Rattle.circuit.specs.Parts.{Parts, parts_of}
 use Rattle.circuit.specs.Gates.{made_before, wires_in}
 use Rattle.circuit.specs.Check.{circuit_refusal}
-use Rattle.steps.specs.Whole.{zero_label}
 use Rattle.tables.specs.Table.{places}
 use Rattle.memory.specs.Copy.{open_copy}
-use Rattle.laws.specs.Ordered.{Ordered}
-use Rattle.laws.proofs.Order.{ordered_check, made_zero, inputs_within}
+use Rattle.laws.proofs.Order.{made_zero, inputs_within}
 use Rattle.laws.proofs.Bits.{plain_input}
 use Rattle.laws.proofs.Opening.{parts_open}
 use Rattle.parties.specs.declared.state.Call.TheVariants.{Deliver as DeliverCall}
@@ -32,18 +29,6 @@ use Rattle.settlement.proofs.Turning.{true_false, or_right}
 module _ {L : Type 0} (K : Kind L) (F : L → ℕ → L) (bytes : List ℕ) (seed : L) (passes : circuit_refusal bytes ≡ None) (s : State L) (x : ℕ → Bool) (tied : Tied K F bytes seed s x) where
   abbrev c : Parts
   c = parts_of bytes
-
-  abbrev Δ : L
-  Δ = offset F seed K
-
-  abbrev zeros_of : ℕ → L
-  zeros_of = zero_label K F seed c
-
-  ordered : Ordered c
-  ordered = ordered_check bytes passes
-
-  more : (g : ℕ) → suc g ≡ g + 1
-  more g = omega arith
 
   pub encode_keeps : (i b : ℕ) → refusal s K bytes (Encode i b) ≡ None
       → Tied K F bytes seed (by_encode s (marked s.garbler i) (set s.sent i (encoded K s.offset s.zeros i b))) (λ j. cond (eqb j i) (eqb b 1) (x j))

@@ -2,7 +2,7 @@ mod Lending
 mod Making
 mod Answering
 mod Running
-mod Facts
+pub mod Facts
 mod Turning
 pub mod Circuits
 mod Between
@@ -12,12 +12,12 @@ mod OutputsKeep
 pub mod Outcomes
 mod Kept
 mod Counting
-mod Values
-mod Certifying
+pub mod Values
+pub mod Certifying
 mod Beginning
 mod Theorem
 pub mod AlikeLengths
-mod AlikeBits
+pub mod AlikeBits
 mod AlikeRefusals
 mod AlikeCalls
 mod Alike

@@ -1,11 +1,10 @@
 -- Colours and decode keep the tie. Assumes nothing.
-use Rattle.std.proofs.Common.{◌≡◌, ℕ, suc, ◌+◌, ◌<◌, ◌≤◌, Bool, true, false, not, ◌&&◌, List, ◌++◌, length, take, drop, Some, None, sym, ap, ◌∙◌, arith}
+use Rattle.std.proofs.Common.{◌≡◌, ℕ, ◌<◌, ◌≤◌, Bool, true, false, not, ◌&&◌, List, ◌++◌, length, take, drop, Some, None, sym, ap, ◌∙◌, arith}
 use Rattle.std.proofs.lemmas.Bool.Decides.{nat_tests}
 use Rattle.std.proofs.lemmas.List.{get_or_append_left}
 use Rattle.labels.specs.Kind.{Kind}
 use Rattle.labels.specs.Longs.{and_right}
 use Rattle.labels.specs.Numbers.{digit}
-use Rattle.hashes.specs.Draws.{offset}
 use Rattle.circuit.specs.Parts.{Parts, parts_of}
 use Rattle.circuit.specs.Gates.{output_of, wires_in}
 use Rattle.circuit.specs.Check.{circuit_refusal}
@@ -20,8 +19,7 @@ use Rattle.parties.specs.States.{allowed, state_of}
 use Rattle.parties.specs.Refusing.{outputs_refusal}
 use Rattle.parties.specs.declared.state.Call.TheVariants.{Decode as DecodeCall}
 use Rattle.memory.specs.Outputs.{colour_at, colours_of}
-use Rattle.laws.specs.Ordered.{Ordered}
-use Rattle.laws.proofs.Order.{ordered_check, made_up}
+use Rattle.laws.proofs.Order.{made_up}
 use Rattle.parties.specs.Turns.{gates_left}
 use Rattle.settlement.specs.State.{State, by_colours, by_decode}
 use Rattle.settlement.specs.Stands.{colours_by, refusal}
@@ -37,18 +35,6 @@ some_same a b e = cc
 module _ {L : Type 0} (K : Kind L) (F : L → ℕ → L) (bytes : List ℕ) (seed : L) (passes : circuit_refusal bytes ≡ None) (s : State L) (x : ℕ → Bool) (tied : Tied K F bytes seed s x) where
   abbrev c : Parts
   c = parts_of bytes
-
-  abbrev Δ : L
-  Δ = offset F seed K
-
-  abbrev zeros_of : ℕ → L
-  zeros_of = zero_label K F seed c
-
-  ordered : Ordered c
-  ordered = ordered_check bytes passes
-
-  more : (g : ℕ) → suc g ≡ g + 1
-  more g = omega arith
 
   -- every wire's zero label, once all gates are garbled
   all_zeros : gates_left s.garbler ≡ false → (w : ℕ) → w < wires_in (parts_of bytes) → places K s.zeros w ≡ zero_label K F seed (parts_of bytes) w

@@ -18,16 +18,13 @@ use Rattle.settlement.specs.declared.lent.Lent.{Lent}
 use Rattle.settlement.specs.declared.line.Answer.{Answer}
 use Rattle.settlement.specs.declared.line.Answer.TheVariants.{NotMade}
 use Rattle.settlement.specs.declared.line.Line.{Line}
-
--- no Bool is both
-both : {X : Type 0} (b : Bool) → b ≡ true → b ≡ false → X
-both b e f = absurd (let z : ◌≡◌ {A = ℕ} 0 1 = cc in omega arith)
+use Rattle.settlement.proofs.Turning.{true_false}
 
 module _ {L : Type 0} (K : Kind L) (F E : L → ℕ → L) (bytes : List ℕ) (s t : State L) (call : Call) where
   -- a call that stands is made, and one that does not leaves all as it is
   pub made_step : (a : Answer L) → stands s call ≡ true → Made K F E bytes call s a t → Step K F E bytes s call a t
   made_step a up m = record {
-    unmade = λ e. both _ up e;
+    unmade = λ e. true_false _ up e;
     refused = λ why _ e. m.refused why e;
     accepted = λ _ e. m.accepted e;
   }
@@ -35,8 +32,8 @@ module _ {L : Type 0} (K : Kind L) (F E : L → ℕ → L) (bytes : List ℕ) (s
   pub unmade_step : stands s call ≡ false → t ≡ s → Step K F E bytes s call NotMade t
   unmade_step down e = record {
     unmade = λ _. (refl, e);
-    refused = λ why up _. both _ up down;
-    accepted = λ up _. both _ up down;
+    refused = λ why up _. true_false _ up down;
+    accepted = λ up _. true_false _ up down;
   }
 
   -- the labels' memory keeps its length

@@ -18,8 +18,10 @@ use Rattle.settlement.specs.State.{State}
 use Rattle.settlement.specs.Runs.{Settlement, Step, Begun, Ran}
 use Rattle.settlement.specs.Lines.{call_at, line_at}
 use Rattle.settlement.specs.Followed.{Followed}
-use Rattle.settlement.specs.Settled.{Room, Prepared, Settled, settle_refusal}
-use Rattle.settlement.specs.Ended.{own_refusal, Denied, Begins, Ended}
+use Rattle.settlement.specs.Refused.{Room, settle_refusal}
+use Rattle.settlement.specs.Settled.{Settled}
+use Rattle.settlement.specs.Refused.{own_refusal, Denied}
+use Rattle.settlement.specs.Settled.{Begins, Ended}
 use Rattle.settlement.specs.declared.call.Call.{Call}
 use Rattle.settlement.specs.declared.line.Line.{Line}
 use Rattle.settlement.specs.declared.past.Past.{Past}
@@ -28,14 +30,10 @@ use Rattle.settlement.proofs.Theorem.{claims, line_claims}
 use Rattle.settlement.proofs.Alike.{line_alike}
 use Rattle.settlement.proofs.Wiping.{Held, held_at, garbler_may, evaluator_may}
 
-or_else_assoc : (a b d : Option Refusal) → or_else a (or_else b d) ≡ or_else (or_else a b) d
-or_else_assoc (Some why) b d = refl
-or_else_assoc None b d = refl
-
 module _ {L : Type 0} (K : Kind L) (F : L → ℕ → L) (bytes seed : List ℕ) (garbler evaluator : Side) (zeros labels : ℕ) (room : Room) where
   both_refusals : settle_refusal K F bytes seed garbler evaluator zeros labels room ≡ or_else (own_refusal bytes room) (or_else (open_refusal garbler bytes K F zeros seed) (join_refusal evaluator (open_copy bytes) labels))
   unfolding settle_refusal
-  both_refusals = or_else_assoc _ (copy_refusal bytes room.copy) _
+  both_refusals = refl
 
   pub refused_first : (why : Refusal) → own_refusal bytes room ≡ Some why → settle_refusal K F bytes seed garbler evaluator zeros labels room ≡ Some why
   refused_first why e = both_refusals ∙ ap (λ (o : Option Refusal). or_else o (or_else (open_refusal garbler bytes K F zeros seed) (join_refusal evaluator (open_copy bytes) labels))) e
@@ -99,17 +97,6 @@ module _ {L : Type 0} (K : Kind L) (F E : L → ℕ → L) (bytes seed : List �
           evaluator_fits = fits;
         }
 
-    prepared : Prepared K settlement seed old
-    prepared = record {
-      opened = b.opened;
-      joined = b.joined;
-      sent = b.sent;
-      scratch = b.scratch;
-      material = b.material;
-      colours = b.colours;
-      outputs = b.outputs;
-    }
-
     settled : (last : State L)
         → ((k : ℕ) → k < length calls → Step K F E bytes (at k) (call_at calls k) (line_at lines k).answer (at (suc k)))
         → ((k : ℕ) → k < length calls → (line_at lines k).garbler_count ≡ (at (suc k)).garbler_count)
@@ -120,7 +107,7 @@ module _ {L : Type 0} (K : Kind L) (F E : L → ℕ → L) (bytes seed : List �
         let ran : Ran K settlement (length calls) = record { begun = begun; step = step; garbler_counts = garbler; evaluator_counts = evaluator } in
         let held = subst (λ (z : State L). Held (wires_in (parts_of bytes)) (wires_in (parts_of (open_copy bytes))) z) ends (held_at K settlement (length calls) ran (length calls) (omega arith)) in
         record {
-          prepared = prepared;
+          prepared = b;
           ran = ran;
           ends = ends;
           claims = λ same k l. claims K settlement (length calls) ran same k l;

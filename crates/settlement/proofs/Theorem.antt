@@ -17,7 +17,8 @@ use Rattle.laws.proofs.Bits.{plain_input}
 use Rattle.parties.specs.Marks.{is_marked, all_marked}
 use Rattle.settlement.specs.Lines.{call_at, line_at, is_accepted}
 use Rattle.settlement.specs.Runs.{Settlement, Step, Ran}
-use Rattle.settlement.specs.Claims.{given, bit_of, garbler_sum, evaluator_sum, garbler_made, evaluator_made, label_of, Alike, SameLine, Claims, LineClaims}
+use Rattle.settlement.specs.Claims.{given, bit_of, garbler_sum, evaluator_sum, garbler_made, evaluator_made, label_of, Claims, LineClaims}
+use Rattle.settlement.specs.Alike.{Alike, SameLine}
 use Rattle.circuit.specs.declared.refusal.Refusal.TheVariants.{Foreign}
 use Rattle.settlement.specs.declared.call.Call.{Call}
 use Rattle.settlement.specs.declared.call.Call.TheVariants.{Encode, Certify}

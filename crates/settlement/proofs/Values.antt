@@ -59,7 +59,7 @@ differs_back true false = refl
 differs_back false true = refl
 differs_back false false = refl
 
-digit_is : (b : Bool) → eqb (digit b) 1 ≡ b
+pub digit_is : (b : Bool) → eqb (digit b) 1 ≡ b
 digit_is true = refl
 digit_is false = refl
 

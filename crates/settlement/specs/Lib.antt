@@ -5,6 +5,7 @@ pub mod Accepted
 pub mod Made
 pub mod Runs
 pub mod Followed
+pub mod Alike
 pub mod Claims
+pub mod Refused
 pub mod Settled
-pub mod Ended

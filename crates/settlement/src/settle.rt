@@ -9,8 +9,9 @@ ghost use Rattle.parties.specs.Refusing.{open_refusal, join_refusal};
 ghost use Rattle.settlement.specs.declared.past.Past.{Past};
 ghost use Rattle.settlement.specs.State.{no_past, state_of};
 ghost use Rattle.settlement.specs.Made.{SameLoans};
-ghost use Rattle.settlement.specs.Settled.{settle_refusal};
-ghost use Rattle.settlement.specs.Ended.{room_of, own_refusal, Denied, Begins, Ended};
+ghost use Rattle.settlement.specs.Refused.{settle_refusal};
+ghost use Rattle.settlement.specs.Refused.{room_of, own_refusal, Denied};
+ghost use Rattle.settlement.specs.Settled.{Begins, Ended};
 
 use crate::call::Call;
 use crate::lent::Lent;

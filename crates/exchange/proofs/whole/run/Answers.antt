@@ -1,6 +1,6 @@
 use Rattle.std.proofs.Common.{refl, sym, ◌∙◌}
 use Rattle.std.proofs.lemmas.Result.{on_ok_weaker, IfErr-weaker}
-use Rattle.exchange.proofs.Settled.{Held, outcome, only_opening}
+use Rattle.exchange.proofs.Settled.{outcome, only_opening}
 use Rattle.exchange.proofs.whole.run.Goals as goal
 
 pub returns-clause-outcome : goal.returns-clause-outcome

@@ -1,4 +1,4 @@
-use Rattle.std.proofs.Common.{◌≡◌, ℕ, List, ap, ◌∙◌, subst}
+use Rattle.std.proofs.Common.{◌≡◌, ℕ, List, ◌∙◌, subst}
 use Rattle.labels.specs.Papers.{paper}
 use Rattle.hashes.specs.PaperHash.{paper_hash}
 use Rattle.circuit.specs.Parts.{parts_of}

@@ -2,7 +2,7 @@ use Rattle.std.proofs.Common.{List, length, Some, None, refl, ap, arith}
 use Rattle.std.proofs.lemmas.Result.{err_from_is_err_and}
 use Rattle.circuit.proofs.Checks.{or_else_none}
 use Rattle.settlement.specs.State.{no_past}
-use Rattle.settlement.specs.Ended.{room_of}
+use Rattle.settlement.specs.Refused.{room_of}
 use Rattle.settlement.proofs.Settling.{refused_first, refused_then, copy_passes, denied_later, ended}
 use Rattle.settlement.proofs.settle.settle.Goals as goal
 

@@ -1,7 +1,7 @@
-use Rattle.std.proofs.Common.{◌≡◌, ℕ, List, length, sym, ap, ◌∙◌, rules, arith}
+use Rattle.std.proofs.Common.{◌≡◌, ap, ◌∙◌, rules}
 use Rattle.circuit.specs.Parts.{Parts, parts_of}
 use Rattle.circuit.specs.Gates.{wires_in}
-use Rattle.circuit.specs.Check.{totals, bytes_in}
+use Rattle.circuit.specs.Check.{bytes_in}
 use Rattle.circuit.specs.Lent.{parts_in}
 use Rattle.exchange.specs.Course.{calls_in, course}
 use Rattle.tables.specs.Material.{listed}

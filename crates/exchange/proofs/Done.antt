@@ -36,7 +36,7 @@ use Rattle.exchange.proofs.Marks.{marks_below, is_below}
 use Rattle.exchange.proofs.Copies.{inputs_copy, wires_copy, gates_copy}
 use Rattle.exchange.proofs.Turns.{at_encode, at_deliver, at_garble, at_evaluate, at_colours, at_decode, at_certify, unnoted, each_turn}
 use Rattle.exchange.proofs.Stages.{Whole}
-use Rattle.exchange.proofs.Phases.{Course, encodes, delivers, garbles, evaluates, coloured, ends, encode_answers, deliver_answers, garble_answers, evaluate_answers, certifies, certify_leaves, certify_answers, colours_answer, decode_answer}
+use Rattle.exchange.proofs.Phases.{Course, encodes, delivers, garbles, evaluates, coloured, ends, encode_answers, deliver_answers, garble_answers, evaluate_answers, certifies, colours_shown, colours_kept, certify_leaves, certify_answers, colours_answer, decode_answer}
 
 module _ {L : Type 0} (K : Kind L) (r : Settlement L) (bits : List ℕ) (h : Course K r bits)
     (claims : (k : ℕ) → k ≤ calls_in (parts_of r.circuit).sizes → Claims K r k) (lines : (k : ℕ) → k < calls_in (parts_of r.circuit).sizes → LineClaims K r k) where
@@ -136,23 +136,29 @@ module _ {L : Type 0} (K : Kind L) (r : Settlement L) (bits : List ℕ) (h : Cou
       let next : (r.at n).garbler.next ≡ gates = ap (λ (z : Side). z.next) end_stage.garbler in
       sym (take_all (r.at n).garbler.bytes (r.at n).material (omega arith)) ∙ d.material ∙ ap (material_before K F seed c) next
 
-  -- the certifies leave the outputs
-  still : (m : ℕ) → m ≤ c.sizes.outputs → (r.at (2 * inputs + 2 * gates + 2 + m)).outputs ≡ (r.at (2 * inputs + 2 * gates + 2)).outputs
-  still zero l = ap (λ (k : ℕ). (r.at k).outputs) (let e : 2 * inputs + 2 * gates + 2 + 0 ≡ 2 * inputs + 2 * gates + 2 = omega arith in e)
+  -- the certifies leave all as it is
+  still : (m : ℕ) → m ≤ c.sizes.outputs → r.at (2 * inputs + 2 * gates + 2 + m) ≡ r.at (2 * inputs + 2 * gates + 2)
+  still zero l = ap r.at (let e : 2 * inputs + 2 * gates + 2 + 0 ≡ 2 * inputs + 2 * gates + 2 = omega arith in e)
   still (suc m) l =
       let e : 2 * inputs + 2 * gates + 2 + suc m ≡ suc (2 * inputs + 2 * gates + 2 + m) = omega arith in
-      ap (λ (k : ℕ). (r.at k).outputs) e ∙ ap (λ (z : State L). z.outputs) (certify_leaves K r bits h m (omega arith)) ∙ still m (omega arith)
+      ap r.at e ∙ certify_leaves K r bits h m (omega arith) ∙ still m (omega arith)
 
-  outputs_same : (o : ℕ) → slice_index (r.at n).outputs o ≡ slice_index (r.at (suc (2 * inputs + 2 * gates + 1))).outputs o
-  outputs_same o =
+  once_decoded : r.at n ≡ r.at (suc (2 * inputs + 2 * gates + 1))
+  once_decoded =
       let a : n ≡ 2 * inputs + 2 * gates + 2 + c.sizes.outputs = omega arith in
       let b : 2 * inputs + 2 * gates + 2 ≡ suc (2 * inputs + 2 * gates + 1) = omega arith in
-      ap (λ (k : ℕ). slice_index (r.at k).outputs o) a ∙ ap (λ (xs : List ℕ). slice_index xs o) (still c.sizes.outputs (omega arith)) ∙ ap (λ (k : ℕ). slice_index (r.at k).outputs o) b
+      ap r.at a ∙ still c.sizes.outputs (omega arith) ∙ ap r.at b
+
+  pub colours_end : (o : ℕ) → o < c.sizes.outputs → slice_index (r.at n).colours o ≡ digit (K.colour (zero_label K F seed c (output_of c o)))
+  colours_end o l =
+      ap (λ (z : State L). slice_index z.colours o) once_decoded
+      ∙ ap (λ (xs : List ℕ). slice_index xs o) (colours_kept K r bits h)
+      ∙ (lines (2 * inputs + 2 * gates) (omega arith)).colours c.sizes.outputs (colours_shown K r bits h) o l
 
   pub outputs_end : (o : ℕ) → o < c.sizes.outputs → slice_index (r.at n).outputs o ≡ digit (plain_bit c (bit_in bits) (output_of c o))
   outputs_end o l =
       let k : ℕ = 2 * inputs + 2 * gates + 1 in
-      outputs_same o
+      ap (λ (z : State L). slice_index z.outputs o) once_decoded
       ∙ (lines k (omega arith)).decodes (decode_answer K r bits h) o l
       ∙ ap digit (bit_past (suc k) (output_of c o) (omega arith) (omega arith) (outputs_made r.circuit passes o l))
 

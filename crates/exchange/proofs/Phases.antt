@@ -1,5 +1,5 @@
 -- A whole settlement, call by call. Assumes nothing.
-use Rattle.std.proofs.Common.{◌≡◌, ◌≢◌, ℕ, zero, suc, ◌+◌, ◌*◌, ◌<◌, ◌≤◌, true, List, get_or, ◌∙◌, subst, arith}
+use Rattle.std.proofs.Common.{◌≡◌, ◌≢◌, ℕ, zero, suc, ◌+◌, ◌*◌, ◌<◌, ◌≤◌, true, List, get_or, ◌∙◌, subst, arith, Some, ap}
 use Rattle.labels.specs.Kind.{Kind}
 use Rattle.circuit.specs.Parts.{Parts, parts_of}
 use Rattle.circuit.specs.Gates.{form_of}
@@ -115,7 +115,7 @@ module _ {L : Type 0} (K : Kind L) (r : Settlement L) (bits : List ℕ) where
         (at_step (2 * inputs + gates + gates) last (Whole K r.circuit) (omega arith) (evaluates gates (omega arith)))
         (made last (Colours c.sizes.outputs) (omega arith) (at_colours c.sizes _ _ _ _ _ _ _))
 
-    decoding : ((line_at r.lines (last + 1)).answer ≡ Decoded) × Whole K r.circuit (r.at (suc (last + 1))) × ((r.at (suc (last + 1))).decoded ≡ true)
+    decoding : ((line_at r.lines (last + 1)).answer ≡ Decoded) × Whole K r.circuit (r.at (suc (last + 1))) × ((r.at (suc (last + 1))).decoded ≡ true) × ((r.at (suc (last + 1))).colours ≡ (r.at (last + 1)).colours)
     decoding =
         let next : suc last ≡ last + 1 = omega arith in
         decode_on K r.circuit h.ran.begun.passes h.few r.garbler_hash r.evaluator_hash (r.at (last + 1)) (line_at r.lines (last + 1)).answer (r.at (suc (last + 1)))
@@ -152,6 +152,12 @@ module _ {L : Type 0} (K : Kind L) (r : Settlement L) (bits : List ℕ) where
 
     pub decode_answer : (line_at r.lines (last + 1)).answer ≡ Decoded
     decode_answer = decoding.0
+
+    pub colours_shown : (r.at (suc last)).shown ≡ Some c.sizes.outputs
+    colours_shown = colouring.2.count
+
+    pub colours_kept : (r.at (suc (last + 1))).colours ≡ (r.at (suc last)).colours
+    colours_kept = decoding.3 ∙ ap (λ (k : ℕ). (r.at k).colours) (let e : last + 1 ≡ suc last = omega arith in e)
 
     pub coloured : Whole K r.circuit (r.at (suc last))
     coloured = colouring.1

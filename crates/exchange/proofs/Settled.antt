@@ -38,7 +38,7 @@ use Rattle.exchange.specs.Outcome.{Outcome}
 use Rattle.exchange.proofs.Copies.{wires_copy}
 use Rattle.exchange.proofs.Stages.{Enough, Whole}
 use Rattle.exchange.proofs.Phases.{Course, ends as ends_whole}
-use Rattle.exchange.proofs.Done.{zeros_end, labels_end, material_end, outputs_end, lines_end}
+use Rattle.exchange.proofs.Done.{zeros_end, labels_end, material_end, outputs_end, colours_end, lines_end}
 
 -- the bits of an accepted plain evaluation are bits, one for each input
 none_met : (a b d : Bool) → (a || (not b || d)) ≡ false → b ≡ true
@@ -155,6 +155,7 @@ module _ {L : Type 0} (K : Kind L) (F : L → ℕ → L) (bytes seed bits copy :
         labels_are = λ w l. ap (λ (xs : List L). places K xs w) (sym holds.labels) ∙ labels_end K r bits course_is claims line_claims w l;
         material_is = sym holds.material ∙ material_end K r bits course_is claims line_claims;
         outputs_are = λ o l. ap (λ (xs : List ℕ). slice_index xs o) (sym holds.outputs) ∙ outputs_end K r bits course_is claims line_claims o l;
+        colours_are = λ o l. ap (λ (xs : List ℕ). slice_index xs o) (sym holds.colours) ∙ colours_end K r bits course_is claims line_claims o l;
         lines_are = lines_end K r bits course_is claims line_claims;
         zeros_long = ap length (sym holds.zeros) ∙ stage.enough.zeros;
         labels_long = ap length (sym holds.labels) ∙ stage.enough.labels;

@@ -211,7 +211,7 @@ module _ {L : Type 0} (K : Kind L) (bytes : List ℕ) where
           },
         )
 
-    pub decode_on : Whole s → Shown s → Step K F E bytes s (Decode c.sizes.outputs) a t → (a ≡ Decoded) × Whole t × (t.decoded ≡ true)
+    pub decode_on : Whole s → Shown s → Step K F E bytes s (Decode c.sizes.outputs) a t → (a ≡ Decoded) × Whole t × (t.decoded ≡ true) × (t.colours ≡ s.colours)
     decode_on stage shown step =
         let n : ℕ = c.sizes.outputs in
         let e = stage.enough in
@@ -238,6 +238,7 @@ module _ {L : Type 0} (K : Kind L) (bytes : List ℕ) where
             evaluator_count = ap (λ (z : State L). z.evaluator_count) acc.leaves ∙ stage.evaluator_count;
           },
           ap (λ (z : State L). z.decoded) acc.leaves,
+          ap (λ (z : State L). z.colours) acc.leaves,
         )
 
     -- the one refusal that is left is that of its label

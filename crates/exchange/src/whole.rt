@@ -1,12 +1,14 @@
 // A whole settlement: settle, with the calls of one.
-ghost use Rattle.std.specs.Prelude.{◌≡◌, ℕ, List, not, length, replicate, Some, None, OnOk, OnErr, IfErr};
+ghost use Rattle.std.specs.Prelude.{◌≡◌, ℕ, List, not, length, drop, ◌++◌, replicate, Some, None, OnOk, OnErr, IfErr};
 ghost use Rattle.circuit.specs.Parts.{parts_of};
 ghost use Rattle.circuit.specs.Gates.{wires_in};
 ghost use Rattle.parties.specs.Side.{unused};
 ghost use Rattle.parties.specs.Refusing.{open_refusal, wipe_refusal};
 ghost use Rattle.parties.specs.States.{state_of, allowed};
 ghost use Rattle.parties.specs.declared.state.Call.TheVariants.{Wipe};
-ghost use Rattle.settlement.specs.Refused.{room_of, settle_refusal};
+ghost use Rattle.memory.specs.Copy.{open_copy};
+ghost use Rattle.circuit.specs.declared.refusal.Refusal.{Refusal};
+ghost use Rattle.settlement.specs.Refused.{room_of, own_refusal, settle_refusal};
 ghost use Rattle.exchange.specs.Planned.{Planned};
 ghost use Rattle.exchange.specs.Outcome.{Outcome};
 
@@ -35,6 +37,8 @@ pub fn run<L: Label, F: LabelFunction<L>>(
 ) -> Result<(GarblerToken, EvaluatorToken), Refusal>
     ensures cleared { seed.new ≡ replicate (length seed.old) 0 }
     ensures judged { IfErr result (λ why. settle_refusal L.kind F.means circuit.now seed.old garbler.old.progress.side evaluator.old.progress.side (length lent.old.zeros.now) (length lent.old.labels.now) (room_of (length calls.now) (length lines.old) (length lent.old.sent.now) (length copy.old)) ≡ Some why) }
+    ensures copied { own_refusal circuit.now (room_of (length calls.now) (length lines.old) (length lent.old.sent.now) (length copy.old)) ≡ None → copy.new ≡ open_copy circuit.now ++ drop (length circuit.now) copy.old }
+    ensures uncopied { (why : Refusal) → own_refusal circuit.now (room_of (length calls.now) (length lines.old) (length lent.old.sent.now) (length copy.old)) ≡ Some why → copy.new ≡ copy.old }
     ensures unwritten { OnErr result (lines.new ≡ lines.old) }
     ensures outcome { OnOk result ((bits : List ℕ) → Planned L.kind circuit.now bits copy.old garbler.old.progress.side evaluator.old.progress.side lent.old calls.now lines.old → Outcome L.kind F.means (L.kind.from seed.old) (parts_of circuit.now) bits lent.new lines.new) }
     ensures opened { OnOk result ((bits : List ℕ) → Planned L.kind circuit.now bits copy.old garbler.old.progress.side evaluator.old.progress.side lent.old calls.now lines.old → open_refusal unused circuit.now L.kind F.means (wires_in (parts_of circuit.now)) seed.old ≡ None) }

@@ -3,7 +3,8 @@ use Rattle.std.proofs.Common.{◌≡◌, ℕ, ◌+◌, ◌-◌, ◌*◌, ◌/◌
 use Rattle.std.proofs.lemmas.Bool.{lt-ltb, le-ltb, eq-eqb, ne_eqb}
 use Rattle.std.proofs.lemmas.Bool.Decides.{nat_tests}
 use Rattle.std.proofs.lemmas.List.{drop-drop, length-drop}
-use Rattle.circuit.specs.Words.{part, word_at, all_below}
+use Rattle.labels.specs.Words.{word_at}
+use Rattle.circuit.specs.Words.{part, all_below}
 use Rattle.circuit.specs.Header.{sizes_of, within, words_in}
 use Rattle.circuit.specs.Parts.{Parts, parts_at, parts_of}
 use Rattle.circuit.specs.Gates.{form_of, output_of, wires_in, in_order}

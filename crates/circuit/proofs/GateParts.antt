@@ -2,7 +2,8 @@
 use Rattle.std.proofs.Common.{◌≡◌, ℕ, suc, ◌+◌, ◌*◌, ◌/◌, ◌^◌, ◌<◌, ◌≤◌, Bool, true, false, leb, List, length, sym, ap, ◌∙◌, arith}
 use Rattle.std.proofs.lemmas.Bool.Decides.{nat_tests}
 use Rattle.std.proofs.lemmas.Bool.{lt-leb, le-leb}
-use Rattle.circuit.specs.Words.{word_at, part, all_below}
+use Rattle.labels.specs.Words.{word_at}
+use Rattle.circuit.specs.Words.{part, all_below}
 use Rattle.circuit.specs.Forms.{is_table, fan_in, fan_out, reads, makes}
 use Rattle.circuit.specs.Parts.{Parts}
 use Rattle.circuit.specs.Gates.{form_of, place_of, operand_of, row_of, rows_from, in_order, rows_fit, made_before, wires_in}

@@ -1,7 +1,8 @@
 -- Words of a part. Assumes nothing.
 use Rattle.std.proofs.Common.{◌≡◌, ℕ, ◌+◌, ◌*◌, ◌<◌, ◌≤◌, List, length, get_or, take, drop, ◌∙◌, arith}
 use Rattle.std.proofs.lemmas.List.{get_or-take, get_or-drop, take-take, length-take-le, length-drop}
-use Rattle.circuit.specs.Words.{word_at, part}
+use Rattle.labels.specs.Words.{word_at}
+use Rattle.circuit.specs.Words.{part}
 
 -- byte i of a part
 byte_of : (from count i : ℕ) (xs : List ℕ) → i < 2 * count → get_or (part from count xs) i 0 ≡ get_or xs (2 * from + i) 0

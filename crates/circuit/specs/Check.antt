@@ -16,13 +16,16 @@ use Rattle.circuit.specs.declared.sizes.Checked.{Checked}
 abbrev pub most_wires : ℕ
 most_wires = 1024
 
--- the sizes and the length
-abbrev pub size_refusal : List ℕ → Option Refusal
-size_refusal bytes =
+-- the sizes, of a circuit that should be so long
+abbrev pub length_refusal : List ℕ → ℕ → Option Refusal
+length_refusal bytes long =
     first_of ((nat_lt (length bytes) 10, Short)
     ∷ (not (within (sizes_of bytes)), Size)
-    ∷ (not (length bytes == 2 * words_in (sizes_of bytes)), Length)
+    ∷ (not (length bytes == long), Length)
     ∷ [])
+
+abbrev pub size_refusal : List ℕ → Option Refusal
+size_refusal bytes = length_refusal bytes (2 * words_in (sizes_of bytes))
 
 module _ (c : Parts) where
   -- of a gate: its form, and the places of its operands and rows
@@ -49,15 +52,15 @@ module _ (c : Parts) where
   gates_refusal (suc g) = or_else (gates_refusal g) (gate_refusal g)
 
   -- of the output list, whose gate number is the gate count
-  abbrev pub outputs_refusal : Option Refusal
-  outputs_refusal = first_of ((not (all_below (output_of c) c.sizes.outputs (wires_in c)), NotMade c.sizes.gates) ∷ [])
+  abbrev pub list_refusal : Option Refusal
+  list_refusal = first_of ((not (all_below (output_of c) c.sizes.outputs (wires_in c)), NotMade c.sizes.gates) ∷ [])
 
 -- the first refusal of a circuit, if any
 unfoldable pub circuit_refusal : List ℕ → Option Refusal
 circuit_refusal bytes =
     or_else (size_refusal bytes)
     (or_else (gates_refusal (parts_of bytes) (sizes_of bytes).gates)
-    (outputs_refusal (parts_of bytes)))
+    (list_refusal (parts_of bytes)))
 
 module _ {L : Type 0} (K : Kind L) (c : Parts) where
   abbrev pub bits_in : ℕ → ℕ

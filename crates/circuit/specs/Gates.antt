@@ -1,6 +1,7 @@
 -- The gates of a circuit: their operands and rows, and the wires made before them. Assumes nothing.
 use Rattle.std.specs.Prelude.{ℕ, ◌+◌, ◌^◌, Bool, not, ◌&&◌, ◌||◌, nat_le, nat_lt}
-use Rattle.circuit.specs.Words.{word_at, all_below, sum_below}
+use Rattle.labels.specs.Words.{word_at}
+use Rattle.circuit.specs.Words.{all_below, sum_below}
 use Rattle.circuit.specs.Forms.{fan_in, fan_out, reads, makes, operand_words}
 use Rattle.circuit.specs.Parts.{Parts}
 

@@ -1,6 +1,6 @@
 -- The five sizes that a circuit begins with. Assumes nothing.
 use Rattle.std.specs.Prelude.{ℕ, ◌+◌, ◌*◌, Bool, ◌&&◌, List, nat_le}
-use Rattle.circuit.specs.Words.{word_at}
+use Rattle.labels.specs.Words.{word_at}
 use Rattle.circuit.specs.declared.sizes.Sizes.{Sizes}
 
 abbrev pub sizes_of : List ℕ → Sizes

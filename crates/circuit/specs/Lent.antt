@@ -1,6 +1,7 @@
 -- Arrays and gates of the code, as parts of a circuit. Assumes nothing.
 use Rattle.std.specs.Prelude.{◌≡◌, ℕ, ◌+◌, ◌*◌, ◌/◌, ◌^◌, ◌≤◌, Bool, true, List, length}
-use Rattle.circuit.specs.Words.{part, word_at, all_below}
+use Rattle.labels.specs.Words.{word_at}
+use Rattle.circuit.specs.Words.{part, all_below}
 use Rattle.circuit.specs.Parts.{Parts}
 use Rattle.circuit.specs.Forms.{is_table, fan_in, fan_out}
 use Rattle.circuit.specs.Gates.{form_of, place_of, rows_from}

@@ -1,6 +1,6 @@
 -- How much material a gate has, for labels of κ bits. Assumes nothing.
-use Rattle.std.specs.Prelude.{ℕ, ◌+◌, ◌-◌, ◌*◌, ◌/◌, ◌^◌, cond, ◌==◌}
-use Rattle.material.specs.Size.{table_bits}
+use Rattle.std.specs.Prelude.{ℕ, ◌*◌, cond, ◌==◌}
+use Rattle.material.specs.Size.{table_bits, in_bytes}
 use Rattle.circuit.specs.Forms.{fan_in, fan_out}
 
 abbrev pub gate_bits : ℕ → ℕ → ℕ
@@ -8,4 +8,4 @@ gate_bits κ form = cond (form == 0) 0 (cond (form == 1) (2 * κ) (table_bits κ
 
 -- a gate's bits, filled up to whole bytes
 abbrev pub gate_bytes : ℕ → ℕ → ℕ
-gate_bytes κ form = (gate_bits κ form + 7) / 8
+gate_bytes κ form = in_bytes (gate_bits κ form)

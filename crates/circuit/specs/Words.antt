@@ -1,9 +1,5 @@
--- Sixteen-bit words in bytes, the lower byte first. Assumes nothing.
-use Rattle.std.specs.Prelude.{ℕ, zero, suc, ◌+◌, ◌*◌, Bool, true, ◌&&◌, List, take, drop, nat_lt, slice_index}
-
--- word k of some bytes
-abbrev pub word_at : List ℕ → ℕ → ℕ
-word_at bytes k = slice_index bytes (2 * k) + 256 * slice_index bytes (2 * k + 1)
+-- Stretches of words of 16 bits, and what holds of the first so many numbers. Assumes nothing.
+use Rattle.std.specs.Prelude.{ℕ, zero, suc, ◌+◌, ◌*◌, Bool, true, ◌&&◌, List, take, drop, nat_lt}
 
 -- the bytes of `count` words, from word `from` on
 abbrev pub part : ℕ → ℕ → List ℕ → List ℕ

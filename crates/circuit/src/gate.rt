@@ -1,6 +1,7 @@
 // The gates of a circuit.
 ghost use Rattle.std.specs.Prelude.{◌≡◌, ◌+◌, ◌*◌, ◌/◌, ◌^◌, ◌<◌, ◌≤◌, length, Some, None, MatchResult};
-ghost use Rattle.circuit.specs.Words.{part, word_at, all_below};
+ghost use Rattle.labels.specs.Words.{word_at};
+ghost use Rattle.circuit.specs.Words.{part, all_below};
 ghost use Rattle.circuit.specs.Check.{shape_refusal};
 ghost use Rattle.circuit.specs.Forms.{is_table};
 ghost use Rattle.circuit.specs.Gates.{form_of, place_of, made_before, wires_in};

@@ -1,6 +1,7 @@
 // Sixteen-bit words in bytes, the lower byte first.
 ghost use Rattle.std.specs.Prelude.{◌≡◌, ◌+◌, ◌*◌, ◌/◌, ◌<◌, length};
-ghost use Rattle.circuit.specs.Words.{word_at, all_below};
+ghost use Rattle.labels.specs.Words.{word_at};
+ghost use Rattle.circuit.specs.Words.{all_below};
 
 pub fn word(low: u8, high: u8) -> u16
     ensures { result ≡ low + 256 * high }

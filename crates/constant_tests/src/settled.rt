@@ -1,13 +1,14 @@
 // A circuit of an XOR, an AND and a table gate, settled on all input bits under the constant hash.
 use crate::constant::ConstantFunction;
 use evaluator::record::Evaluator;
-use exchange::room::{Room, lend};
+use exchange::ending::wipe_both;
+use exchange::room::Room;
 use exchange::whole::run;
 use garbler::record::Garbler;
 use labels::kind::Label;
 use labels::long::Long;
 use plain::run::plain;
-use settlement::lent::Lent;
+use settlement::lent::{Lent, lend};
 use settlement::line::{Answer, Line};
 use std::alloc::Global;
 use std::test::Fail;
@@ -59,7 +60,7 @@ fn settled(heap: Global, given: &[u8; 3]) -> Result<Done, Fail> {
         room.colours.as_mut_slice(),
         room.outputs.as_mut_slice(),
     );
-    let (garbler_token, evaluator_token) = run::<Long, ConstantFunction>(
+    let tokens = run::<Long, ConstantFunction>(
         &CIRCUIT,
         room.copy.as_mut_slice(),
         room.seed.as_mut_slice(),
@@ -70,8 +71,7 @@ fn settled(heap: Global, given: &[u8; 3]) -> Result<Done, Fail> {
         room.lines.as_mut_slice(),
     )?;
     let stands = stand(&lent, &wires) && &*lent.outputs == outputs.as_slice();
-    garbler.wipe(garbler_token, lent.zeros).unwrap();
-    evaluator.wipe(evaluator_token, lent.labels).unwrap();
+    wipe_both(&mut garbler, &mut evaluator, tokens, &mut lent);
     Ok(Done {
         stands,
         outputs,

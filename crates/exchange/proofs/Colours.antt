@@ -1,7 +1,8 @@
 -- The colours that the garbler shows are bits. Assumes nothing.
 use Rattle.std.proofs.Common.{◌≡◌, ℕ, ◌<◌, true, List, length, get_or, arith}
 use Rattle.labels.specs.Kind.{Kind}
-use Rattle.circuit.specs.Words.{word_at, all_below}
+use Rattle.labels.specs.Words.{word_at}
+use Rattle.circuit.specs.Words.{all_below}
 use Rattle.circuit.proofs.Bounds.{below_all}
 use Rattle.memory.specs.Outputs.{colour_at, colours_of}
 use Rattle.tables.specs.Table.{places}

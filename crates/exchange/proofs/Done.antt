@@ -16,7 +16,7 @@ use Rattle.steps.specs.Gate.{garble_calls, evaluate_calls}
 use Rattle.steps.specs.Whole.{zero_label, input_label, label, material_before}
 use Rattle.tables.specs.Table.{places}
 use Rattle.memory.specs.Copy.{open_copy}
-use Rattle.laws.specs.Ordered.{Ordered}
+use Rattle.laws.proofs.Ordered.{Ordered}
 use Rattle.laws.proofs.Order.{ordered_check}
 use Rattle.laws.proofs.Bits.{plain_same}
 use Rattle.laws.proofs.Sounds.{circuit_sound}
@@ -31,7 +31,7 @@ use Rattle.settlement.specs.declared.call.Call.TheVariants.{Encode}
 use Rattle.settlement.specs.declared.line.Answer.{Answer}
 use Rattle.settlement.specs.declared.line.Answer.TheVariants.{Garbled, Encoded, Delivered, Evaluated, Coloured, Decoded, Certified}
 use Rattle.settlement.proofs.Circuits.{outputs_made}
-use Rattle.exchange.specs.Course.{calls_in, by_turn, course_line, bits_at, bytes_at}
+use Rattle.exchange.specs.Course.{calls_in, by_turn, course_line, bits_of_gate, bytes_of_gate}
 use Rattle.exchange.proofs.Marks.{marks_below, is_below}
 use Rattle.exchange.proofs.Copies.{inputs_copy, wires_copy, gates_copy}
 use Rattle.exchange.proofs.Turns.{at_encode, at_deliver, at_garble, at_evaluate, at_colours, at_decode, at_certify, unnoted, each_turn}
@@ -175,8 +175,8 @@ module _ {L : Type 0} (K : Kind L) (r : Settlement L) (bits : List ℕ) (h : Cou
       → Line_is k
   line_from k g v a s l answer garbled evaluated at wanted eg ev =
       let x = answer ∙ sym wanted in
-      let y = h.ran.garbler_counts k l ∙ ap (λ (z : State L). z.garbler_count) at ∙ garbled ∙ ap (λ (m : ℕ). counted 0 (1 + inputs + sum_below (garble_calls c) m)) (sym eg) in
-      let z = h.ran.evaluator_counts k l ∙ ap (λ (z : State L). z.evaluator_count) at ∙ evaluated ∙ ap (λ (m : ℕ). counted 0 (sum_below (evaluate_calls c) m)) (sym ev) in
+      let y = h.ran.follows.garbler_counts k l ∙ ap (λ (z : State L). z.garbler_count) at ∙ garbled ∙ ap (λ (m : ℕ). counted 0 (1 + inputs + sum_below (garble_calls c) m)) (sym eg) in
+      let z = h.ran.follows.evaluator_counts k l ∙ ap (λ (z : State L). z.evaluator_count) at ∙ evaluated ∙ ap (λ (m : ℕ). counted 0 (sum_below (evaluate_calls c) m)) (sym ev) in
       (λ j. record { answer = x j; garbler_count = y j; evaluator_count = z j })
 
   encode_line : (i : ℕ) → i < inputs → Line_is i
@@ -201,7 +201,7 @@ module _ {L : Type 0} (K : Kind L) (r : Settlement L) (bits : List ℕ) (h : Cou
       let s = garbles K r bits h (suc g) l in
       let e : suc (2 * inputs + g) ≡ 2 * inputs + suc g = omega arith in
       let more : g + 1 ≡ suc g = omega arith in
-      line_from (2 * inputs + g) (suc g) 0 (Garbled (bits_at K F seed c bits g) (bytes_at K F seed c bits g)) (r.at (2 * inputs + suc g)) (omega arith) (garble_answers K r bits h g l)
+      line_from (2 * inputs + g) (suc g) 0 (Garbled (bits_of_gate K F seed c bits g) (bytes_of_gate K F seed c bits g)) (r.at (2 * inputs + suc g)) (omega arith) (garble_answers K r bits h g l)
       s.garbler_count s.evaluator_count (ap r.at e)
       (at_garble c.sizes _ _ _ _ _ _ _ g l) (at_garble c.sizes _ _ _ _ _ _ _ g l ∙ more) (at_garble c.sizes _ _ _ _ _ _ _ g l)
 
@@ -210,7 +210,7 @@ module _ {L : Type 0} (K : Kind L) (r : Settlement L) (bits : List ℕ) (h : Cou
       let s = evaluates K r bits h (suc v) l in
       let e : suc (2 * inputs + gates + v) ≡ 2 * inputs + gates + suc v = omega arith in
       let more : v + 1 ≡ suc v = omega arith in
-      line_from (2 * inputs + gates + v) gates (suc v) (Evaluated (bytes_at K F seed c bits v)) (r.at (2 * inputs + gates + suc v)) (omega arith) (evaluate_answers K r bits h v l)
+      line_from (2 * inputs + gates + v) gates (suc v) (Evaluated (bytes_of_gate K F seed c bits v)) (r.at (2 * inputs + gates + suc v)) (omega arith) (evaluate_answers K r bits h v l)
       s.garbler_count s.evaluator_count (ap r.at e)
       (at_evaluate c.sizes _ _ _ _ _ _ _ v l) (at_evaluate c.sizes _ _ _ _ _ _ _ v l) (at_evaluate c.sizes _ _ _ _ _ _ _ v l ∙ more)
 

@@ -1,6 +1,7 @@
 mod Marks
 mod Reached
 mod Copies
+mod Counted
 mod Colours
 mod Accepted
 mod Turns

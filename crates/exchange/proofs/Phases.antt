@@ -9,7 +9,8 @@ use Rattle.circuit.specs.declared.refusal.Refusal.TheVariants.{Foreign}
 use Rattle.memory.specs.Copy.{open_copy}
 use Rattle.garbler.specs.Garbling.{encoded}
 use Rattle.settlement.specs.Lines.{call_at, line_at}
-use Rattle.settlement.specs.Runs.{Settlement, Step, Ran}
+use Rattle.settlement.specs.Made.{Step}
+use Rattle.settlement.specs.Runs.{Settlement, Ran}
 use Rattle.settlement.specs.declared.call.Call.{Call}
 use Rattle.settlement.specs.declared.call.Call.TheVariants.{Garble, Encode, Deliver, Evaluate, Colours, Decode, Certify}
 use Rattle.settlement.specs.declared.line.Answer.TheVariants.{Refused, Garbled, Encoded, Delivered, Evaluated, Coloured, Decoded}
@@ -47,7 +48,7 @@ module _ {L : Type 0} (K : Kind L) (r : Settlement L) (bits : List ℕ) where
   module _ (h : Course) where
     -- call k is made
     made : (k : ℕ) (d : Call) → k < calls_in c.sizes → call k ≡ d → Step K r.garbler_hash r.evaluator_hash r.circuit (r.at k) d (line_at r.lines k).answer (r.at (suc k))
-    made k d l e = subst (λ (q : Call). Step K r.garbler_hash r.evaluator_hash r.circuit (r.at k) q (line_at r.lines k).answer (r.at (suc k))) (h.calls k l ∙ e) (h.ran.step k l)
+    made k d l e = subst (λ (q : Call). Step K r.garbler_hash r.evaluator_hash r.circuit (r.at k) q (line_at r.lines k).answer (r.at (suc k))) (h.calls k l ∙ e) (h.ran.follows.step k l)
 
     first : Stage K r.circuit 0 0 0 0 (r.at 0)
     first = record {

@@ -21,10 +21,10 @@ use Rattle.tables.specs.Table.{places}
 use Rattle.settlement.specs.declared.lent.Lent.{Lent}
 use Rattle.parties.specs.Refusing.{open_refusal, join_refusal}
 use Rattle.settlement.specs.State.{State}
-use Rattle.settlement.specs.Runs.{Settlement, Ran}
+use Rattle.settlement.specs.Runs.{Settlement, settlement_from, Ran}
 use Rattle.settlement.specs.Claims.{Claims, LineClaims}
 use Rattle.settlement.specs.Refused.{settle_refusal}
-use Rattle.settlement.specs.Refused.{room_of}
+use Rattle.settlement.specs.Refused.{supply_of}
 use Rattle.settlement.specs.Settled.{Ended}
 use Rattle.settlement.specs.declared.call.Call.{Call}
 use Rattle.settlement.specs.declared.call.Call.TheVariants.{Garble}
@@ -78,16 +78,7 @@ module _ {L : Type 0} (K : Kind L) (F : L → ℕ → L) (bytes seed bits copy :
   call = course c.sizes (bytes_in K c c.sizes.gates) bits
 
   abbrev r : Settlement L
-  r = record {
-    circuit = bytes;
-    garbler_hash = F;
-    evaluator_hash = F;
-    garbler_came = old.garbler_count;
-    evaluator_came = old.evaluator_count;
-    calls = calls;
-    lines = lines;
-    at = e.at;
-  }
+  r = settlement_from old F F bytes calls lines e.at
 
   many : length calls ≡ calls_in c.sizes
   many = ap length plan.calls_are ∙ length_listed call (calls_in c.sizes)
@@ -113,12 +104,12 @@ module _ {L : Type 0} (K : Kind L) (F : L → ℕ → L) (bytes seed bits copy :
       let lz = ap (λ (xs : List L). length xs) first.zeros in
       let lj = ap (λ (xs : List L). length xs) first.labels in
       record {
-        zeros = z ∙ lz ∙ plan.zeros_long;
-        labels = j ∙ lj ∙ plan.labels_long;
-        scratch = s ∙ plan.scratch_long;
-        material = m ∙ plan.material_long;
-        colours = d ∙ plan.colours_long;
-        outputs = o ∙ plan.outputs_long;
+        zeros = z ∙ lz ∙ plan.enough.zeros_long;
+        labels = j ∙ lj ∙ plan.enough.labels_long;
+        scratch = s ∙ plan.enough.scratch_long;
+        material = m ∙ plan.enough.material_long;
+        colours = d ∙ plan.enough.colours_long;
+        outputs = o ∙ plan.enough.outputs_long;
       }
 
   course_is : Course K r bits
@@ -173,15 +164,15 @@ module _ {L : Type 0} (K : Kind L) (F : L → ℕ → L) (bytes seed bits copy :
 
   own_free : or_else (first_of ((ltb (length lines) (length calls) || ltb (length lent.sent.now) 256, Memory) ∷ [])) (copy_refusal bytes (length copy)) ≡ None
   own_free =
-      let a : ltb (length lines) (length calls) ≡ false = le-ltb (length lines) (length calls) (let e = plan.lines_long in omega arith) in
-      let b : ltb (length lent.sent.now) 256 ≡ false = le-ltb (length lent.sent.now) 256 (let e = plan.sent_long in omega arith) in
-      let d : ltb (length copy) (length bytes) ≡ false = le-ltb (length copy) (length bytes) (let e = plan.copy_long in omega arith) in
+      let a : ltb (length lines) (length calls) ≡ false = le-ltb (length lines) (length calls) (let e = plan.enough.lines_long in omega arith) in
+      let b : ltb (length lent.sent.now) 256 ≡ false = le-ltb (length lent.sent.now) 256 (let e = plan.enough.sent_long in omega arith) in
+      let d : ltb (length copy) (length bytes) ≡ false = le-ltb (length copy) (length bytes) (let e = plan.enough.copy_long in omega arith) in
       let p = passes in rw (a, b, p, d) refl
 
   join_free : join_refusal unused (open_copy bytes) (length lent.labels.now) ≡ None
   join_free =
       let w = wires_copy bytes passes in
-      let d : ltb (length lent.labels.now) (wires_in (parts_of (open_copy bytes))) ≡ false = le-ltb (length lent.labels.now) (wires_in (parts_of (open_copy bytes))) (let e = plan.labels_long in omega arith) in
+      let d : ltb (length lent.labels.now) (wires_in (parts_of (open_copy bytes))) ≡ false = le-ltb (length lent.labels.now) (wires_in (parts_of (open_copy bytes))) (let e = plan.enough.labels_long in omega arith) in
       let p = passes_open bytes passes in
       rw (p, d) refl
 
@@ -189,10 +180,10 @@ module _ {L : Type 0} (K : Kind L) (F : L → ℕ → L) (bytes seed bits copy :
   or_none (Some why) b e = refl
   or_none None b e = e
 
-  pub only_opening : settle_refusal K F bytes seed garbler evaluator (length lent.zeros.now) (length lent.labels.now) (room_of (length calls) (length lines) (length lent.sent.now) (length copy)) ≡ opening
+  pub only_opening : settle_refusal K F bytes seed garbler evaluator (length lent.zeros.now) (length lent.labels.now) (supply_of (length calls) (length lines) (length lent.sent.now) (length copy)) ≡ opening
   unfolding settle_refusal
   only_opening =
-      (λ i. settle_refusal K F bytes seed (plan.garbler_new i) (plan.evaluator_new i) (length lent.zeros.now) (length lent.labels.now) (room_of (length calls) (length lines) (length lent.sent.now) (length copy)))
+      (λ i. settle_refusal K F bytes seed (plan.garbler_new i) (plan.evaluator_new i) (length lent.zeros.now) (length lent.labels.now) (supply_of (length calls) (length lines) (length lent.sent.now) (length copy)))
       ∙ ap (λ (x : Option Refusal). or_else x (or_else (open_refusal unused bytes K F (length lent.zeros.now) seed) (join_refusal unused (open_copy bytes) (length lent.labels.now)))) own_free
       ∙ or_none (open_refusal unused bytes K F (length lent.zeros.now) seed) _ join_free
-      ∙ ap (λ (w : ℕ). open_refusal unused bytes K F w seed) plan.zeros_long
+      ∙ ap (λ (w : ℕ). open_refusal unused bytes K F w seed) plan.enough.zeros_long

@@ -24,7 +24,7 @@ use Rattle.settlement.specs.State.{State}
 use Rattle.settlement.specs.Stands.{refusal, is_shown, colours_by, output_label}
 use Rattle.settlement.specs.Accepted.{Accepted}
 use Rattle.settlement.specs.Alike.{SameLengths}
-use Rattle.settlement.specs.Runs.{Step}
+use Rattle.settlement.specs.Made.{Step}
 use Rattle.settlement.specs.declared.call.Call.{Call}
 use Rattle.settlement.specs.declared.call.Call.TheVariants.{Garble, Encode, Deliver, Evaluate, Colours, Decode, Certify}
 use Rattle.settlement.specs.declared.line.Answer.{Answer}
@@ -102,7 +102,7 @@ module _ {L : Type 0} (K : Kind L) (bytes : List ℕ) where
         → (a ≡ Encoded (encoded K s.offset s.zeros i b)) × Stage (suc i) 0 0 0 t
     encode_on i b there small stage step =
         let free : refusal s K bytes (Encode i b) ≡ None = encode_passes K bytes passes i (length s.zeros) b there few (at_least _ _ stage.enough.zeros) s.garbler stage.garbler small in
-        let acc = step.accepted refl free in (
+        let acc = (step.made refl).accepted free in (
           acc.answer,
           record {
             garbler = marks_on K c i 0 s.garbler t.garbler stage.garbler (ap (λ (z : State L). z.garbler) acc.leaves);
@@ -121,7 +121,7 @@ module _ {L : Type 0} (K : Kind L) (bytes : List ℕ) where
         let room = stage.enough.labels in
         let sent : is_marked s.garbler.marks i ≡ true = ap (λ (z : Side). is_marked z.marks i) stage.garbler ∙ is_below c.sizes.inputs i few there in
         let free : refusal s K bytes (Deliver i) ≡ None = deliver_passes K (open_copy bytes) (passes_open bytes passes) i (length s.labels) (omega arith) (omega arith) (omega arith) s.evaluator stage.evaluator in
-        let acc = step.accepted (or_true (leb s.garbler.sizes.inputs i) (is_marked s.garbler.marks i) sent) free in (
+        let acc = (step.made (or_true (leb s.garbler.sizes.inputs i) (is_marked s.garbler.marks i) sent)).accepted free in (
           acc.answer,
           record {
             garbler = ap (λ (z : State L). z.garbler) acc.leaves ∙ stage.garbler;
@@ -142,7 +142,7 @@ module _ {L : Type 0} (K : Kind L) (bytes : List ℕ) where
         let long = e.material in
         let material : length (take m s.material) ≡ m = length-take-le m s.material (omega arith) in
         let free : refusal s K bytes (Garble 256 m) ≡ None = garble_passes K bytes passes g (length s.zeros) (length (take 256 s.scratch)) (length (take m s.material)) there (at_least _ _ e.zeros) (omega arith) material c.sizes.inputs s.garbler stage.garbler in
-        let acc = step.accepted refl free in (
+        let acc = (step.made refl).accepted free in (
           acc.answer ∙ ap (λ (n : ℕ). Garbled (gate_bits (8 * K.width) (form_of c n)) (gate_bytes (8 * K.width) (form_of c n))) here,
           record {
             garbler = steps_on K c c.sizes.inputs g s.garbler t.garbler stage.garbler (ap (λ (z : State L). z.garbler) acc.leaves);
@@ -172,7 +172,7 @@ module _ {L : Type 0} (K : Kind L) (bytes : List ℕ) where
         let own : s.evaluator ≡ reached K copied copied.sizes.inputs v = stage.evaluator ∙ ap (λ (n : ℕ). reached K copied n v) (sym i) in
         let free : refusal s K bytes (Evaluate 256) ≡ None =
         evaluate_passes K (open_copy bytes) (passes_open bytes passes) v (length s.labels) (length (take 256 s.scratch)) (length (take s.garbler.bytes s.material)) (omega arith) (omega arith) (omega arith) (omega arith) (omega arith) s.evaluator own in
-        let acc = step.accepted refl free in (
+        let acc = (step.made refl).accepted free in (
           acc.answer ∙ ap Evaluated (ap (λ (n : ℕ). gate_bytes (8 * K.width) (form_of copied n)) here ∙ gate_bytes_copy bytes passes K v),
           record {
             garbler = ap (λ (z : State L). z.garbler) acc.leaves ∙ stage.garbler;
@@ -191,7 +191,7 @@ module _ {L : Type 0} (K : Kind L) (bytes : List ℕ) where
         let e = stage.enough in
         let room : length (take n s.colours) ≡ n = length-take-le n s.colours (at_least _ _ e.colours) in
         let free : refusal s K bytes (Colours n) ≡ None = colours_passes K bytes passes (length s.zeros) (length (take n s.colours)) (at_least _ _ e.zeros) room c.sizes.inputs s.garbler stage.garbler in
-        let acc = step.accepted refl free in
+        let acc = (step.made refl).accepted free in
         let list : List ℕ = colours_of K s.zeros c.outputs n in
         let made : t.colours ≡ list ++ drop n s.colours = ap (λ (z : State L). z.colours) acc.leaves ∙ ap (λ (k : ℕ). colours_of K s.zeros c.outputs k ++ drop n s.colours) room in
         let long : length list ≡ n = colours_long K s.zeros c.outputs n in
@@ -228,7 +228,7 @@ module _ {L : Type 0} (K : Kind L) (bytes : List ℕ) where
         let given : decode_refusal s.evaluator (open_copy bytes) (length s.labels) cs (length (take n s.outputs)) ≡ None =
         decode_passes K (open_copy bytes) (passes_open bytes passes) (length s.labels) cs (length (take n s.outputs)) (omega arith) (omega arith) (omega arith) (omega arith) bits s.evaluator own in
         let free : refusal s K bytes (Decode n) ≡ None = ap (λ (k : Option ℕ). decode_refusal s.evaluator (open_copy bytes) (length s.labels) (colours_by k s.colours) (length (take n s.outputs))) shown.count ∙ given in
-        let acc = step.accepted (ap is_shown shown.count) free in (
+        let acc = (step.made (ap is_shown shown.count)).accepted free in (
           acc.answer,
           record {
             garbler = ap (λ (z : State L). z.garbler) acc.leaves ∙ stage.garbler;
@@ -245,9 +245,9 @@ module _ {L : Type 0} (K : Kind L) (bytes : List ℕ) where
     label_only : (o : ℕ) → certify_refusal s.garbler bytes K s.offset s.zeros o (output_label s K bytes o) ≡ first_of ((is_foreign K s.offset (places K s.zeros (output_of c o)) (output_label s K bytes o), Foreign) ∷ [])
         → (b : Bool) → is_foreign K s.offset (places K s.zeros (output_of c o)) (output_label s K bytes o) ≡ b → Step K F E bytes s (Certify o) a t → s.decoded ≡ true → a ≢ Refused Foreign → IsCertified a × (t ≡ s)
     label_only o only true e step decoded known =
-        absurd (known (step.refused Foreign decoded (only ∙ ap (λ (q : Bool). first_of ((q, Foreign) ∷ [])) e)).0)
+        absurd (known ((step.made decoded).refused Foreign (only ∙ ap (λ (q : Bool). first_of ((q, Foreign) ∷ [])) e)).0)
     label_only o only false e step decoded known =
-        let acc = step.accepted decoded (only ∙ ap (λ (q : Bool). first_of ((q, Foreign) ∷ [])) e) in
+        let acc = (step.made decoded).accepted (only ∙ ap (λ (q : Bool). first_of ((q, Foreign) ∷ [])) e) in
         (record { bit = _; answer = acc.answer }, acc.leaves)
 
     pub certify_on : (o : ℕ) → o < c.sizes.outputs → Whole s → s.decoded ≡ true → Step K F E bytes s (Certify o) a t → a ≢ Refused Foreign

@@ -38,11 +38,11 @@ module _ (s : Sizes) where
 
 -- The line of call k: the label of the input's bit, the gate's bits and bytes, or the output's plain bit; and both counts.
 module _ {L : Type 0} (K : Kind L) (F : L → ℕ → L) (seed : L) (c : Parts) (bits : List ℕ) where
-  abbrev pub bits_at : ℕ → ℕ
-  bits_at g = gate_bits (8 * K.width) (form_of c g)
+  abbrev pub bits_of_gate : ℕ → ℕ
+  bits_of_gate g = gate_bits (8 * K.width) (form_of c g)
 
-  abbrev pub bytes_at : ℕ → ℕ
-  bytes_at g = gate_bytes (8 * K.width) (form_of c g)
+  abbrev pub bytes_of_gate : ℕ → ℕ
+  bytes_of_gate g = gate_bytes (8 * K.width) (form_of c g)
 
   -- the gates that are garbled once call k is made, and those that are evaluated
   abbrev pub garbled_by : ℕ → ℕ
@@ -53,7 +53,7 @@ module _ {L : Type 0} (K : Kind L) (F : L → ℕ → L) (seed : L) (c : Parts) 
 
   abbrev pub course_line : ℕ → Line L
   course_line k = record {
-    answer = by_turn c.sizes k (λ i. Encoded (input_label K F seed c (bit_in bits) i)) (λ i. Delivered) (λ g. Garbled (bits_at g) (bytes_at g)) (λ g. Evaluated (bytes_at g)) Coloured Decoded (λ o. Certified (plain_bit c (bit_in bits) (output_of c o)));
+    answer = by_turn c.sizes k (λ i. Encoded (input_label K F seed c (bit_in bits) i)) (λ i. Delivered) (λ g. Garbled (bits_of_gate g) (bytes_of_gate g)) (λ g. Evaluated (bytes_of_gate g)) Coloured Decoded (λ o. Certified (plain_bit c (bit_in bits) (output_of c o)));
     garbler_count = counted 0 (1 + c.sizes.inputs + sum_below (garble_calls c) (garbled_by k));
     evaluator_count = counted 0 (sum_below (evaluate_calls c) (evaluated_by k));
   }

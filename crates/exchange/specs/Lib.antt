@@ -1,4 +1,5 @@
 pub mod Course
+pub mod Enough
 pub mod Planned
 pub mod Outcome
 pub mod Furnished

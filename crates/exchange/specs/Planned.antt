@@ -1,5 +1,5 @@
 -- A settlement that is planned to be whole: new sides, a circuit that passes with a bit for each input, its calls, and as much memory as it asks for. Assumes nothing.
-use Rattle.std.specs.Prelude.{◌≡◌, ℕ, List, length, None, Option}
+use Rattle.std.specs.Prelude.{◌≡◌, ℕ, List, None, Option}
 use Rattle.labels.specs.Kind.{Kind}
 use Rattle.circuit.specs.Parts.{Parts, parts_of}
 use Rattle.circuit.specs.Gates.{wires_in}
@@ -15,6 +15,7 @@ use Rattle.settlement.specs.declared.call.Call.{Call}
 use Rattle.settlement.specs.declared.lent.Lent.{Lent}
 use Rattle.settlement.specs.declared.line.Line.{Line}
 use Rattle.exchange.specs.Course.{calls_in, course}
+use Rattle.exchange.specs.Enough.{Enough}
 
 -- the first refusal of a whole settlement: that of a plain evaluation, and then that of opening, with memory enough
 abbrev pub whole_refusal : {L : Type 0} → Kind L → (L → ℕ → L) → List ℕ → List ℕ → List ℕ → Option Refusal
@@ -31,12 +32,4 @@ pub record Planned {L : Type 0} (K : Kind L) (bytes bits copy : List ℕ) (garbl
   pub evaluator_new : evaluator ≡ unused
   pub accepted : plain_refusal bytes bits (wires_in (parts_of bytes)) (parts_of bytes).sizes.outputs ≡ None
   pub calls_are : calls ≡ calls_of K (parts_of bytes) bits
-  pub copy_long : length copy ≡ length bytes
-  pub zeros_long : length lent.zeros.now ≡ wires_in (parts_of bytes)
-  pub labels_long : length lent.labels.now ≡ wires_in (parts_of bytes)
-  pub sent_long : length lent.sent.now ≡ 256
-  pub scratch_long : length lent.scratch.now ≡ 256
-  pub material_long : length lent.material.now ≡ bytes_in K (parts_of bytes) (parts_of bytes).sizes.gates
-  pub colours_long : length lent.colours.now ≡ (parts_of bytes).sizes.outputs
-  pub outputs_long : length lent.outputs.now ≡ (parts_of bytes).sizes.outputs
-  pub lines_long : length lines ≡ length calls
+  pub enough : Enough K bytes copy lent.zeros.now lent.labels.now lent.sent.now lent.scratch.now lent.material.now lent.colours.now lent.outputs.now calls lines

@@ -2,5 +2,6 @@
 #![tactic(auto)]
 
 mod calls;
+pub mod ending;
 pub mod room;
 pub mod whole;

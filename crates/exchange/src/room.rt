@@ -14,8 +14,7 @@ use circuit::refusal::Refusal;
 use labels::kind::Label;
 use plain::run::all_bits;
 use settlement::call::Call;
-use settlement::lent::Lent;
-use settlement::line::{Answer, Line};
+use settlement::line::Line;
 use std::alloc::{AllocError, Global};
 
 // A label for each input that a circuit may have, and the scratch that a gate asks for.
@@ -34,18 +33,6 @@ pub struct Room<L> {
     pub outputs: Vec<u8>,
     pub calls: Vec<Call>,
     pub lines: Vec<Line<L>>,
-}
-
-// A line for each call, none of them made yet.
-fn no_lines<L: Label>(heap: Global, calls: usize) -> Result<Vec<Line<L>>, AllocError>
-    ensures { IfOk result (λ v. length v.items ≡ calls) }
-{
-    let unmade = Line {
-        answer: Answer::NotMade,
-        garbler_count: 0,
-        evaluator_count: 0,
-    };
-    vec![in heap; unmade; calls]
 }
 
 // The circuit, where it passes and each of its inputs has a bit.
@@ -99,7 +86,7 @@ impl<L: Label> Room<L> {
         let outputs = usize::from(c.arrays.sizes.outputs);
         let material = c.totals::<L>().bytes;
         let calls = all_calls(heap, c.arrays.sizes, material, bits)?;
-        let lines = no_lines(heap, calls.len())?;
+        let lines = vec![in heap; Line::unmade(); calls.len()]?;
         Ok(Room {
             copy: vec![in heap; 0; circuit.len()]?,
             seed: seed.to_vec(heap)?,
@@ -113,34 +100,5 @@ impl<L: Label> Room<L> {
             calls,
             lines,
         })
-    }
-}
-
-// The memories under their names. A function of its own, since a struct of several new loans is not covered yet.
-pub fn lend<'a, L: Label>(
-    zeros: &'a mut [L],
-    labels: &'a mut [L],
-    sent: &'a mut [L],
-    scratch: &'a mut [L],
-    material: &'a mut [u8],
-    colours: &'a mut [u8],
-    outputs: &'a mut [u8],
-) -> Lent<'a, L>
-    ensures zeros { result.zeros.now ≡ zeros.old }
-    ensures labels { result.labels.now ≡ labels.old }
-    ensures sent { result.sent.now ≡ sent.old }
-    ensures scratch { result.scratch.now ≡ scratch.old }
-    ensures material { result.material.now ≡ material.old }
-    ensures colours { result.colours.now ≡ colours.old }
-    ensures outputs { result.outputs.now ≡ outputs.old }
-{
-    Lent {
-        zeros,
-        labels,
-        sent,
-        scratch,
-        material,
-        colours,
-        outputs,
     }
 }

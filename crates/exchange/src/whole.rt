@@ -8,7 +8,9 @@ ghost use Rattle.parties.specs.States.{state_of, allowed};
 ghost use Rattle.parties.specs.declared.state.Call.TheVariants.{Wipe};
 ghost use Rattle.memory.specs.Copy.{open_copy};
 ghost use Rattle.circuit.specs.declared.refusal.Refusal.{Refusal};
-ghost use Rattle.settlement.specs.Refused.{room_of, own_refusal, settle_refusal};
+ghost use Rattle.settlement.specs.State.{no_past, held_by};
+ghost use Rattle.settlement.specs.Refused.{supply_of, own_refusal, settle_refusal, Denied};
+ghost use Rattle.settlement.specs.Settled.{Ended};
 ghost use Rattle.exchange.specs.Planned.{Planned};
 ghost use Rattle.exchange.specs.Outcome.{Outcome};
 
@@ -23,7 +25,7 @@ use settlement::lent::Lent;
 use settlement::line::Line;
 use settlement::settle::settle;
 
-// Settles under the function F, each side with a new hash of its own; hands out both tokens.
+// Settles under the function F, each side with a new hash of its own; hands out both tokens. All that `settle` promises is said again.
 // Where the settlement is planned to be whole, every call is accepted, and all that both sides then hold is given.
 pub fn run<L: Label, F: LabelFunction<L>>(
     circuit: &[u8],
@@ -36,10 +38,13 @@ pub fn run<L: Label, F: LabelFunction<L>>(
     lines: &mut [Line<L>],
 ) -> Result<(GarblerToken, EvaluatorToken), Refusal>
     ensures cleared { seed.new ≡ replicate (length seed.old) 0 }
-    ensures judged { IfErr result (λ why. settle_refusal L.kind F.means circuit.now seed.old garbler.old.progress.side evaluator.old.progress.side (length lent.old.zeros.now) (length lent.old.labels.now) (room_of (length calls.now) (length lines.old) (length lent.old.sent.now) (length copy.old)) ≡ Some why) }
-    ensures copied { own_refusal circuit.now (room_of (length calls.now) (length lines.old) (length lent.old.sent.now) (length copy.old)) ≡ None → copy.new ≡ open_copy circuit.now ++ drop (length circuit.now) copy.old }
-    ensures uncopied { (why : Refusal) → own_refusal circuit.now (room_of (length calls.now) (length lines.old) (length lent.old.sent.now) (length copy.old)) ≡ Some why → copy.new ≡ copy.old }
+    ensures accepted { OnOk result (settle_refusal L.kind F.means circuit.now seed.old garbler.old.progress.side evaluator.old.progress.side (length lent.old.zeros.now) (length lent.old.labels.now) (supply_of (length calls.now) (length lines.old) (length lent.old.sent.now) (length copy.old)) ≡ None) }
+    ensures judged { IfErr result (λ why. settle_refusal L.kind F.means circuit.now seed.old garbler.old.progress.side evaluator.old.progress.side (length lent.old.zeros.now) (length lent.old.labels.now) (supply_of (length calls.now) (length lines.old) (length lent.old.sent.now) (length copy.old)) ≡ Some why) }
+    ensures copied { own_refusal circuit.now (supply_of (length calls.now) (length lines.old) (length lent.old.sent.now) (length copy.old)) ≡ None → copy.new ≡ open_copy circuit.now ++ drop (length circuit.now) copy.old }
+    ensures uncopied { (why : Refusal) → own_refusal circuit.now (supply_of (length calls.now) (length lines.old) (length lent.old.sent.now) (length copy.old)) ≡ Some why → copy.new ≡ copy.old }
     ensures unwritten { OnErr result (lines.new ≡ lines.old) }
+    ensures settled { OnOk result ((m : ℕ) × (n : ℕ) × Ended L.kind F.means F.means circuit.now seed.old calls.now lines.new (held_by garbler.old evaluator.old lent.old no_past 0 0) (λ past. held_by garbler.new evaluator.new lent.new past m n)) }
+    ensures denied { IfErr result (λ why. (m : ℕ) × (n : ℕ) × Denied L.kind F.means circuit.now seed.old (own_refusal circuit.now (supply_of (length calls.now) (length lines.old) (length lent.old.sent.now) (length copy.old))) why (held_by garbler.old evaluator.old lent.old no_past 0 0) (held_by garbler.new evaluator.new lent.new no_past m n)) }
     ensures outcome { OnOk result ((bits : List ℕ) → Planned L.kind circuit.now bits copy.old garbler.old.progress.side evaluator.old.progress.side lent.old calls.now lines.old → Outcome L.kind F.means (L.kind.from seed.old) (parts_of circuit.now) bits lent.new lines.new) }
     ensures opened { OnOk result ((bits : List ℕ) → Planned L.kind circuit.now bits copy.old garbler.old.progress.side evaluator.old.progress.side lent.old calls.now lines.old → open_refusal unused circuit.now L.kind F.means (wires_in (parts_of circuit.now)) seed.old ≡ None) }
     ensures garbler_wipes { OnOk result (wipe_refusal garbler.new.progress.side (not garbler.new.progress.side.ended) (length lent.new.zeros.now) ≡ None) }

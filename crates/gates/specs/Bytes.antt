@@ -6,5 +6,5 @@ abbrev pub laid : ℕ → List ℕ → List ℕ → List ℕ
 laid place new bytes = take place bytes ++ (new ++ drop (place + length new) bytes)
 
 -- so many bytes from a place on
-abbrev pub part : ℕ → ℕ → List ℕ → List ℕ
-part place size bytes = take size (drop place bytes)
+abbrev pub bytes_at : ℕ → ℕ → List ℕ → List ℕ
+bytes_at place size bytes = take size (drop place bytes)

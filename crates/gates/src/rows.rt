@@ -1,6 +1,6 @@
 // Labels in bytes of material.
 ghost use Rattle.std.specs.Prelude.{◌≡◌, ◌+◌, ◌≤◌, length};
-ghost use Rattle.gates.specs.Bytes.{laid, part};
+ghost use Rattle.gates.specs.Bytes.{laid, bytes_at};
 
 use labels::kind::Label;
 
@@ -16,7 +16,7 @@ pub fn put<L: Label>(material: &mut [u8], place: usize, label: L)
 // Reads the label whose bytes begin at a place.
 pub fn get<L: Label>(material: &[u8], place: usize) -> L
     requires { place + L.kind.width ≤ length material.now }
-    ensures { result ≡ L.kind.from (part place L.kind.width material.now) }
+    ensures { result ≡ L.kind.from (bytes_at place L.kind.width material.now) }
 {
     let end = place + L::width();
     L::read(&material[place..end])

@@ -5,7 +5,7 @@ use Rattle.circuit.specs.Parts.{Parts}
 use Rattle.circuit.specs.Gates.{form_of, operand_of, made_before, wires_in}
 use Rattle.plain.specs.Plain.{gate_bit, plain_rule, plain_bit}
 use Rattle.plain.proofs.Plains.{gate_same}
-use Rattle.laws.specs.Ordered.{Ordered}
+use Rattle.laws.proofs.Ordered.{Ordered}
 use Rattle.laws.proofs.Carried.{input_carried, fresh_carried}
 use Rattle.laws.proofs.Order.{by_gates}
 

@@ -2,6 +2,7 @@
 use Rattle.std.proofs.Common.{◌≡◌, ℕ, zero, suc, ◌+◌, ◌-◌, ◌*◌, ◌/◌, ◌^◌, List, ◌++◌, length, refl, sym, ap, ap₂, ◌∙◌, add-mul, mul_assoc, arith}
 use Rattle.std.proofs.lemmas.List.{length-append}
 use Rattle.labels.specs.Kind.{Kind}
+use Rattle.labels.specs.Words.{word_at}
 use Rattle.material.specs.Size.{bytes_of, labels_of, in_bytes, table_bits}
 use Rattle.material.proofs.Sizes.{whole_bytes}
 use Rattle.circuit.specs.Forms.{fan_in, fan_out, reads, makes}
@@ -11,7 +12,7 @@ use Rattle.circuit.specs.Material.{gate_bytes}
 use Rattle.circuit.specs.Check.{bytes_in}
 use Rattle.hashes.specs.Draws.{offset}
 use Rattle.tables.specs.Gate.{material}
-use Rattle.tables.specs.Material.{each, packed, row_word, written, one_hot_part, mask_part}
+use Rattle.tables.specs.Material.{each, packed, written, one_hot_part, mask_part}
 use Rattle.tables.specs.Table.{places, based, colours, hot, hot_row, mask_row, turned}
 use Rattle.tables.proofs.Packing.{length_listed}
 use Rattle.tables.proofs.Reading.{length_each}
@@ -78,7 +79,7 @@ module _ {L : Type 0} (K : Kind L) (F : L → ℕ → L) where
       (λ h. two_long _ _)
       (λ h.
       let n : length (operand_labels c g K v) ≡ fan_in (form_of c g) = length_listed (λ i. v (operand_of c g i)) (reads (form_of c g)) ∙ table_reads (form_of c g) h in
-      material_of_long g (length (operand_labels c g K v)) (fan_out (form_of c g)) _ Δ (places K (operand_labels c g K v)) (row_word (rows_in c g)) ∙ whole_bytes K.width (length (operand_labels c g K v)) (fan_out (form_of c g))
+      material_of_long g (length (operand_labels c g K v)) (fan_out (form_of c g)) _ Δ (places K (operand_labels c g K v)) (word_at (rows_in c g)) ∙ whole_bytes K.width (length (operand_labels c g K v)) (fan_out (form_of c g))
       ∙ ap (λ (k : ℕ). in_bytes (table_bits (8 * K.width) k (fan_out (form_of c g)))) n)
 
   -- and the gates below g, one after another

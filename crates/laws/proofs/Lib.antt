@@ -4,6 +4,7 @@ pub mod Forms
 pub mod Lengths
 pub mod Opening
 pub mod Order
+pub mod Ordered
 pub mod Same
 pub mod Sounds
 pub mod Zeros

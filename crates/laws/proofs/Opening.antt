@@ -3,13 +3,14 @@ use Rattle.std.proofs.Common.{◌≡◌, ℕ, zero, suc, ◌+◌, ◌-◌, ◌*�
 use Rattle.std.proofs.lemmas.Bool.{cases_Bool, cases_lt}
 use Rattle.std.proofs.lemmas.List.{get_or_append_left, get_or-take, get_or-replicate, get_or_past, take_at, take-take, take-append-le, drop-drop, drop_at, drop-take, length-append, length-take-le, length-drop, length-replicate}
 use Rattle.labels.specs.Kind.{Kind}
+use Rattle.labels.specs.Words.{word_at}
 use Rattle.circuit.specs.Forms.{fan_in, fan_out}
-use Rattle.circuit.specs.Words.{word_at, part, all_below}
+use Rattle.circuit.specs.Words.{part, all_below}
 use Rattle.circuit.specs.Header.{sizes_of, words_in, within as within_limits}
 use Rattle.circuit.specs.Parts.{Parts, parts_at, parts_of}
 use Rattle.circuit.specs.Gates.{form_of, row_of, rows_from, made_before, in_order, rows_fit}
 use Rattle.circuit.specs.Refusals.{first_of, or_else}
-use Rattle.circuit.specs.Check.{most_wires, size_refusal, shape_refusal, wires_refusal, gate_refusal, gates_refusal, outputs_refusal, circuit_refusal}
+use Rattle.circuit.specs.Check.{most_wires, size_refusal, shape_refusal, wires_refusal, gate_refusal, gates_refusal, list_refusal, circuit_refusal}
 use Rattle.circuit.specs.declared.sizes.Sizes.{Sizes}
 use Rattle.circuit.specs.declared.refusal.Refusal.{Refusal}
 use Rattle.circuit.specs.declared.refusal.Refusal.TheVariants.{Short, Size, Length}
@@ -18,7 +19,7 @@ use Rattle.circuit.proofs.Checks.{or_else_none}
 use Rattle.memory.specs.Copy.{rows_begin, rows_end, open_copy}
 use Rattle.memory.proofs.Copying.{passed_long}
 use Rattle.steps.specs.Gate.{new_labels, evaluate_calls}
-use Rattle.laws.specs.Ordered.{Ordered}
+use Rattle.laws.proofs.Ordered.{Ordered}
 use Rattle.laws.specs.Opened.{opened}
 
 -- bytes of a string with a part in the middle of it replaced by as many others
@@ -185,11 +186,11 @@ module _ (bytes : List ℕ) (passes : circuit_refusal bytes ≡ None) where
   c = parts_of bytes
 
   -- the three places where a check may refuse
-  places_pass : (size_refusal bytes ≡ None) × (gates_refusal c c.sizes.gates ≡ None) × (outputs_refusal c ≡ None)
+  places_pass : (size_refusal bytes ≡ None) × (gates_refusal c c.sizes.gates ≡ None) × (list_refusal c ≡ None)
   unfolding circuit_refusal
   places_pass =
-      let a : (size_refusal bytes ≡ None) × (or_else (gates_refusal c c.sizes.gates) (outputs_refusal c) ≡ None) = or_else_none (size_refusal bytes) _ passes in
-      let b : (gates_refusal c c.sizes.gates ≡ None) × (outputs_refusal c ≡ None) = or_else_none (gates_refusal c c.sizes.gates) (outputs_refusal c) a.1 in
+      let a : (size_refusal bytes ≡ None) × (or_else (gates_refusal c c.sizes.gates) (list_refusal c) ≡ None) = or_else_none (size_refusal bytes) _ passes in
+      let b : (gates_refusal c c.sizes.gates ≡ None) × (list_refusal c ≡ None) = or_else_none (gates_refusal c c.sizes.gates) (list_refusal c) a.1 in
       (a.0, b.0, b.1)
 
   pub long_open : length (open_copy bytes) ≡ length bytes
@@ -205,8 +206,8 @@ module _ (bytes : List ℕ) (passes : circuit_refusal bytes ≡ None) where
   gates_same : gates_refusal (parts_of (open_copy bytes)) (sizes_of (open_copy bytes)).gates ≡ None
   gates_same = ap (λ (p : Parts). gates_refusal p p.sizes.gates) (parts_open bytes passes) ∙ gates_open c c.sizes.gates places_pass.1
 
-  outputs_same : outputs_refusal (parts_of (open_copy bytes)) ≡ None
-  outputs_same = ap outputs_refusal (parts_open bytes passes) ∙ places_pass.2
+  outputs_same : list_refusal (parts_of (open_copy bytes)) ≡ None
+  outputs_same = ap list_refusal (parts_open bytes passes) ∙ places_pass.2
 
   pub passes_open : circuit_refusal (open_copy bytes) ≡ None
   unfolding circuit_refusal

@@ -12,7 +12,7 @@ use Rattle.circuit.proofs.Checks.{or_else_none, each_passes, gate_shape, gate_in
 use Rattle.circuit.proofs.Circuits.{gates_pass}
 use Rattle.circuit.proofs.Shapes.{shape_known}
 use Rattle.circuit.proofs.GateParts.{made_rises}
-use Rattle.laws.specs.Ordered.{Ordered, MadeBelow}
+use Rattle.laws.proofs.Ordered.{Ordered, MadeBelow}
 
 -- a check that refuses no gate says so
 pub ordered_gates : (c : Parts) → gates_refusal c c.sizes.gates ≡ None → Ordered c

@@ -1,7 +1,7 @@
 -- A gate looks only at the wires that it reads. Assumes nothing.
 use Rattle.std.proofs.Common.{◌≡◌, ℕ, ◌<◌, ◌≤◌, List, [], ◌∷◌, ◌++◌, refl, ap, ap₂, arith}
 use Rattle.labels.specs.Kind.{Kind}
-use Rattle.gates.specs.Bytes.{part as bytes_at}
+use Rattle.gates.specs.Bytes.{bytes_at}
 use Rattle.gates.specs.Half.{garbled, joined}
 use Rattle.circuit.specs.Forms.{fan_in, fan_out, reads}
 use Rattle.circuit.specs.Parts.{Parts}
@@ -10,7 +10,7 @@ use Rattle.tables.specs.Gate.{material_for, zeros_for, evaluated}
 use Rattle.tables.specs.Table.{places}
 use Rattle.tables.proofs.Packing.{listed_ext}
 use Rattle.steps.specs.Gate.{rows_in, operand_labels, new_zeros, gate_material, new_labels}
-use Rattle.laws.specs.Ordered.{Ordered}
+use Rattle.laws.proofs.Ordered.{Ordered}
 use Rattle.laws.proofs.Forms.{same_arms, two_read}
 
 module _ {L : Type 0} (K : Kind L) (F : L → ℕ → L) where

@@ -6,7 +6,7 @@ use Rattle.std.proofs.lemmas.List.{take_at, drop_at, take_all}
 use Rattle.labels.specs.Kind.{Kind, times, differs}
 use Rattle.labels.specs.Numbers.{bit, number}
 use Rattle.hashes.specs.Draws.{offset}
-use Rattle.gates.specs.Bytes.{part as bytes_at}
+use Rattle.gates.specs.Bytes.{bytes_at}
 use Rattle.gates.specs.Half.{garbled, joined}
 use Rattle.gates.proofs.Halves as halves
 use Rattle.circuit.specs.Forms.{known, fan_in, fan_out, reads, makes}
@@ -14,15 +14,15 @@ use Rattle.circuit.specs.Parts.{Parts}
 use Rattle.circuit.specs.Gates.{form_of, operand_of, rows_from, row_of, made_before, wires_in}
 use Rattle.circuit.proofs.Stretches.{word_of_part}
 use Rattle.tables.specs.Gate.{drawn, material, material_for, zeros_for, evaluated, labels_of_row}
-use Rattle.tables.specs.Material.{row_word}
+use Rattle.labels.specs.Words.{word_at}
 use Rattle.tables.specs.Table.{places, made}
 use Rattle.tables.proofs.Gating.{gate_meets}
 use Rattle.tables.proofs.Packing.{length_listed, get_or_listed}
 use Rattle.plain.specs.Plain.{gate_bit, plain_bit}
-use Rattle.plain.proofs.Numbers.{number_below}
+use Rattle.labels.proofs.Numbers.{number_below}
 use Rattle.steps.specs.Gate.{rows_in, operand_labels, new_zeros, gate_material, new_labels}
 use Rattle.steps.specs.Whole.{zero_label, label}
-use Rattle.laws.specs.Ordered.{Ordered}
+use Rattle.laws.proofs.Ordered.{Ordered}
 use Rattle.laws.specs.Sound.{LabelOf}
 use Rattle.laws.proofs.Forms.{two_read, one_made, table_reads, table_makes, table_some}
 use Rattle.laws.proofs.Order.{by_gates}
@@ -41,7 +41,7 @@ module _ {L : Type 0} (K : Kind L) (x y : L) where
       ∙ ap K.from (take_all K.width (K.bytes y) (omega arith)) ∙ K.back y
 
 -- a row of the circuit is the word that its bytes write
-row_is : (c : Parts) (g i : ℕ) → i < 2 ^ fan_in (form_of c g) → row_word (rows_in c g) i ≡ row_of c g i
+row_is : (c : Parts) (g i : ℕ) → i < 2 ^ fan_in (form_of c g) → word_at (rows_in c g) i ≡ row_of c g i
 row_is c g i l = word_of_part (rows_from c g) (2 ^ fan_in (form_of c g)) i c.rows l
 
 module _ {L : Type 0} (K : Kind L) (F : L → ℕ → L) (seed Δ : L) (c : Parts) (g : ℕ) (colour : K.colour Δ ≡ true) (z u : ℕ → L) (x : ℕ → Bool)
@@ -96,18 +96,18 @@ module _ {L : Type 0} (K : Kind L) (F : L → ℕ → L) (seed Δ : L) (c : Part
         let e = table_reads (form_of c g) high in
         on_operand u k l ∙ held k (omega arith) ∙ ap (λ (a : L). K.xor a (times K (bits k) Δ)) (sym (on_operand z k l))
 
-    table_list : evaluated K F g n m (material_for K F g seed Δ zeros (rows_in c g) m) (places K (operand_labels c g K u)) ≡ labels_of_row K F g n m s Δ (places K zeros) (row_word (rows_in c g)) bits
+    table_list : evaluated K F g n m (material_for K F g seed Δ zeros (rows_in c g) m) (places K (operand_labels c g K u)) ≡ labels_of_row K F g n m s Δ (places K zeros) (word_at (rows_in c g)) bits
     table_list =
         gate_meets K F g n m (material_for K F g seed Δ zeros (rows_in c g) m) (places K (operand_labels c g K u)) _ some refl
-        s Δ (places K zeros) (row_word (rows_in c g)) bits colour operand_held
-        (ap (λ (k : ℕ). material K F g k m s Δ (places K zeros) (row_word (rows_in c g))) as_many)
+        s Δ (places K zeros) (word_at (rows_in c g)) bits colour operand_held
+        (ap (λ (k : ℕ). material K F g k m s Δ (places K zeros) (word_at (rows_in c g))) as_many)
 
     table_sound : (j : ℕ) → j < m
         → places K (evaluated K F g n m (material_for K F g seed Δ zeros (rows_in c g) m) (places K (operand_labels c g K u))) j
         ≡ K.xor (places K (zeros_for K F g seed Δ zeros (rows_in c g) m) j) (times K (bit j (row_of c g (number n bits))) Δ)
     table_sound j l =
         let A : ℕ → L = places K zeros in
-        let row : ℕ → ℕ = row_word (rows_in c g) in
+        let row : ℕ → ℕ = word_at (rows_in c g) in
         let there : places K (zeros_for K F g seed Δ zeros (rows_in c g) m) j ≡ made K F g m (length zeros) s Δ A row j = get_or_listed (made K F g m (length zeros) s Δ A row) m j K.zero l in
         ap (λ (ls : List L). places K ls j) table_list
         ∙ get_or_listed (λ j. K.xor (made K F g m n s Δ A row j) (times K (bit j (row (number n bits))) Δ)) m j K.zero l

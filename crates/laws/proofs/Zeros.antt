@@ -8,7 +8,7 @@ use Rattle.circuit.specs.Gates.{form_of, made_before}
 use Rattle.tables.specs.Table.{places}
 use Rattle.steps.specs.Gate.{new_zeros, new_labels}
 use Rattle.steps.specs.Whole.{zero_rule, zero_label, material_at, input_label, label_rule, label}
-use Rattle.laws.specs.Ordered.{Ordered}
+use Rattle.laws.proofs.Ordered.{Ordered}
 use Rattle.laws.proofs.Carried.{input_carried, fresh_carried}
 use Rattle.laws.proofs.Same.{zeros_same, labels_same}
 

@@ -1,4 +1,3 @@
 pub mod Carried
 pub mod Opened
-pub mod Ordered
 pub mod Sound

@@ -11,7 +11,7 @@ use Rattle.circuit.specs.Check.{circuit_refusal, bytes_in}
 use Rattle.circuit.proofs.Checks.{or_else_none}
 use Rattle.circuit.specs.Refusals.{first_of}
 use Rattle.circuit.specs.declared.refusal.Refusal.TheVariants.{Memory}
-use Rattle.plain.proofs.Numbers.{number_same}
+use Rattle.labels.proofs.Numbers.{number_same}
 use Rattle.laws.proofs.Lengths.{material_before_long}
 use Rattle.tables.proofs.Packing.{length_listed, get_or_listed}
 use Rattle.settlement.specs.Lines.{call_at, line_at}

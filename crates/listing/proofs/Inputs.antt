@@ -4,28 +4,28 @@ use Rattle.std.proofs.lemmas.Bool.{lt-ltb, le-ltb, eq-eqb, ne_eqb}
 use Rattle.std.proofs.lemmas.List.{length-drop, length-take-le}
 use Rattle.circuit.specs.Header.{sizes_of, within}
 use Rattle.circuit.specs.declared.refusal.Refusal.TheVariants.{Short, Size, Length}
-use Rattle.listing.specs.Worksheet.{circuit_end, seed_in, input_refusal}
+use Rattle.listing.specs.Worksheet.{circuit_end, seed_in, sheet_refusal}
 
 module _ (input : List ℕ) where
-  pub input_short : length input < 10 → input_refusal input ≡ Some Short
-  unfolding input_refusal
+  pub input_short : length input < 10 → sheet_refusal input ≡ Some Short
+  unfolding sheet_refusal
   input_short h = let t : ltb (length input) 10 ≡ true = lt-ltb (length input) 10 h in rw t
 
   module _ (long : 10 ≤ length input) where
     not_short : ltb (length input) 10 ≡ false
     not_short = le-ltb (length input) 10 long
 
-    pub input_size : within (sizes_of input) ≡ false → input_refusal input ≡ Some Size
-    unfolding input_refusal
+    pub input_size : within (sizes_of input) ≡ false → sheet_refusal input ≡ Some Size
+    unfolding sheet_refusal
     input_size e = rw (not_short, e)
 
     module _ (ok : within (sizes_of input) ≡ true) where
-      pub input_length : (length input ≡ circuit_end input + 2 + (sizes_of input).inputs → ⊥) → input_refusal input ≡ Some Length
-      unfolding input_refusal
+      pub input_length : (length input ≡ circuit_end input + 2 + (sizes_of input).inputs → ⊥) → sheet_refusal input ≡ Some Length
+      unfolding sheet_refusal
       input_length h = let t : eqb (length input) (circuit_end input + 2 + (sizes_of input).inputs) ≡ false = ne_eqb _ _ h in rw (not_short, ok, t)
 
-      pub input_passes : length input ≡ circuit_end input + 2 + (sizes_of input).inputs → input_refusal input ≡ None
-      unfolding input_refusal
+      pub input_passes : length input ≡ circuit_end input + 2 + (sizes_of input).inputs → sheet_refusal input ≡ None
+      unfolding sheet_refusal
       input_passes h = let t : eqb (length input) (circuit_end input + 2 + (sizes_of input).inputs) ≡ true = eq-eqb _ _ h in rw (not_short, ok, t)
 
   pub seed_count : length input ≡ circuit_end input + 2 + (sizes_of input).inputs → length (seed_in input) ≡ 2

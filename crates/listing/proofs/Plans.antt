@@ -34,15 +34,17 @@ planned K bytes seed bits copy m garbler evaluator lent calls lines f loans eg e
   evaluator_new = ee;
   accepted = f.accepted;
   calls_are = ed ∙ f.calls_are;
-  copy_long = ap length ec ∙ f.copy_long;
-  zeros_long = ap length loans.zeros ∙ f.zeros_long;
-  labels_long = ap length loans.labels ∙ f.labels_long;
-  sent_long = ap length loans.sent ∙ f.sent_long;
-  scratch_long = ap length loans.scratch ∙ f.scratch_long;
-  material_long = ap length loans.material ∙ f.material_long;
-  colours_long = ap length loans.colours ∙ f.colours_long;
-  outputs_long = ap length loans.outputs ∙ f.outputs_long;
-  lines_long = ap length el ∙ f.lines_long ∙ ap length (sym ed);
+  enough = record {
+    copy_long = ap length ec ∙ f.enough.copy_long;
+    zeros_long = ap length loans.zeros ∙ f.enough.zeros_long;
+    labels_long = ap length loans.labels ∙ f.enough.labels_long;
+    sent_long = ap length loans.sent ∙ f.enough.sent_long;
+    scratch_long = ap length loans.scratch ∙ f.enough.scratch_long;
+    material_long = ap length loans.material ∙ f.enough.material_long;
+    colours_long = ap length loans.colours ∙ f.enough.colours_long;
+    outputs_long = ap length loans.outputs ∙ f.enough.outputs_long;
+    lines_long = ap length el ∙ f.enough.lines_long ∙ ap length (sym ed);
+  };
 }
 
 -- what stands against a settlement whose circuit and bits are accepted

@@ -14,7 +14,7 @@ use Rattle.circuit.specs.Parts.{parts_of}
 use Rattle.plain.specs.Plain.{bit_in, plain_bit}
 use Rattle.listing.specs.Lines.{out_line}
 use Rattle.listing.specs.Sheet.{offset_line, label_line, label_lines, material_line}
-use Rattle.listing.specs.Worksheet.{zero_on, label_on, sheet_of}
+use Rattle.listing.specs.Worksheet.{sheet_zero, sheet_label, sheet_of}
 use Rattle.listing.proofs.Steps.{numbers_same}
 
 abbrev Carry : ℕ → (ℕ → Paper) → List Paper → Type 0
@@ -50,7 +50,7 @@ module _ (bytes seed given : List ℕ) (lent : Lent Paper) (lines : List (Line P
       ≡ sheet_of bytes seed given
   sheet_same Δ bits eΔ long outs plain =
       let a = ap offset_line eΔ in
-      let b = label_lines_same (wires_in (parts_of bytes)) (zero_on bytes seed given) (label_on bytes seed given) (plain_bit (parts_of bytes) (bit_in given)) lent.zeros.now lent.labels.now bits long done.zeros_are done.labels_are plain in
+      let b = label_lines_same (wires_in (parts_of bytes)) (sheet_zero bytes seed given) (sheet_label bytes seed given) (plain_bit (parts_of bytes) (bit_in given)) lent.zeros.now lent.labels.now bits long done.zeros_are done.labels_are plain in
       let m = ap (λ (xs : List ℕ). material_line (λ k. get_or xs k 0) (length xs)) done.material_is in
       let o = outs_same (λ o. digit (plain_bit (parts_of bytes) (bit_in given) (output_of (parts_of bytes) o))) lent.outputs.now (parts_of bytes).sizes.outputs outs done.outputs_are in
       (λ i. a i ++ (b i ++ (m i ++ o i)))

@@ -1,5 +1,5 @@
 -- A joint dividend: two ticket counts of 7 bits go in, and a number of 16 bits comes out. Assumes nothing.
-use Rattle.std.specs.Prelude.{ℕ, zero, suc, ◌+◌, ◌*◌, not, Bool, List, [], ◌∷◌, ◌++◌, Some, None, codes, decimal, Option, ◌==◌}
+use Rattle.std.specs.Prelude.{ℕ, zero, suc, ◌+◌, ◌*◌, not, Bool, List, [], ◌∷◌, ◌++◌, codes, decimal, Option, ◌==◌}
 use Rattle.labels.specs.Longs.{long}
 use Rattle.labels.specs.Numbers.{bit, digit, number}
 use Rattle.labels.specs.declared.long.Long.{Long}
@@ -15,7 +15,7 @@ use Rattle.settlement.specs.declared.call.Call.{Call}
 use Rattle.settlement.specs.declared.line.Line.{Line}
 use Rattle.exchange.specs.Course.{calls_in, course, course_line}
 use Rattle.exchange.specs.Planned.{whole_refusal}
-use Rattle.listing.specs.Lines.{out_line, refused_line}
+use Rattle.listing.specs.Lines.{out_line, text_unless}
 use Rattle.listing.specs.Calls.{call_lines}
 
 -- the n low bits of a number as bytes, the lowest first
@@ -81,9 +81,5 @@ module _ (bytes seed : List ℕ) (first second : ℕ) where
       (bytes_in long (parts_of bytes) (parts_of bytes).sizes.gates) last_line.garbler_count last_line.evaluator_count
       (λ o. digit (out_bit o)) (number 16 out_bit)
 
-  abbrev pub text_unless : Option Refusal → List ℕ
-  text_unless (Some why) = refused_line why
-  text_unless None = settle_lines
-
   abbrev pub settle_text : List ℕ
-  settle_text = text_unless dividend_refusal
+  settle_text = text_unless dividend_refusal settle_lines

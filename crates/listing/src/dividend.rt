@@ -2,24 +2,25 @@
 ghost use Rattle.std.specs.Prelude.{◌≡◌, ℕ, OnOk, ◌+◌, ◌≤◌, ◌++◌, length, ◌-◌, IfOk, Some, None, string_bytes, MatchResult, nat_eq, slice_index, slice_index_or};
 ghost use Rattle.labels.specs.Numbers.{number as number_from};
 ghost use Rattle.settlement.specs.Lines.{call_at, line_at};
-ghost use Rattle.listing.specs.Dividend.{low_bits, count_bits, sixteen_refusal, tickets_line, size_line, counts_line, dividend_line, settled_text, text_unless, settle_text};
+ghost use Rattle.listing.specs.Lines.{text_unless};
+ghost use Rattle.listing.specs.Dividend.{low_bits, count_bits, sixteen_refusal, tickets_line, size_line, counts_line, dividend_line, settled_text, settle_lines, settle_text};
 ghost use Rattle.labels.specs.Longs.{long};
 ghost use Rattle.hashes.specs.AesHash.{aes_hash};
 ghost use Rattle.exchange.specs.Planned.{whole_refusal};
 
 use crate::calls::add_lines;
-use crate::ending::wipe_both;
 use crate::lines::{add_outputs, refused};
 use circuit::check::read;
 use circuit::refusal::Refusal;
 use evaluator::record::Evaluator;
-use exchange::room::{Room, lend};
+use exchange::ending::wipe_both;
+use exchange::room::Room;
 use exchange::whole::run;
 use garbler::record::Garbler;
 use hashes::aes_hash::AesFunction;
 use labels::long::Long;
 use settlement::call::Call;
-use settlement::lent::Lent;
+use settlement::lent::{Lent, lend};
 use settlement::line::Line;
 use std::alloc::{AllocError, Global};
 
@@ -122,7 +123,7 @@ fn settled(
     second: u8,
 ) -> Result<String, AllocError>
     requires { sixteen_refusal circuit.now ≡ None }
-    ensures { IfOk result (λ t. string_bytes t ≡ text_unless circuit.now seed.now first second (whole_refusal long aes_hash circuit.now seed.now (count_bits first second))) }
+    ensures { IfOk result (λ t. string_bytes t ≡ text_unless (whole_refusal long aes_hash circuit.now seed.now (count_bits first second)) (settle_lines circuit.now seed.now first second)) }
 {
     let bits = input_bits(first, second);
     let head = tickets(heap, first, second)?;

@@ -3,8 +3,8 @@
 
 mod calls;
 pub mod dividend;
-mod ending;
 mod hex;
+mod input;
 mod lines;
 mod sheet;
 pub mod worksheet;

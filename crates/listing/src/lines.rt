@@ -1,20 +1,9 @@
 // Lines of text.
-ghost use Rattle.std.specs.Prelude.{◌≡◌, false, ◌++◌, length, IfOk, string_bytes, OnOk, slice_index, slice_index_or};
-ghost use Rattle.listing.specs.Lines.{wire_lines, out_line, refused_line};
+ghost use Rattle.std.specs.Prelude.{◌≡◌, ◌++◌, length, IfOk, string_bytes, OnOk, slice_index};
+ghost use Rattle.listing.specs.Lines.{out_line, refused_line};
 
 use circuit::refusal::Refusal;
 use std::alloc::{AllocError, Global};
-
-// Adds a line for each wire.
-pub fn add_wires(text: &mut String, wires: &[bool]) -> Result<(), AllocError>
-    ensures { OnOk result (string_bytes text.new ≡ string_bytes text.old ++ wire_lines (λ w. slice_index_or wires.now w false) (length wires.now)) }
-{
-    for (w, bit) in wires.iter().enumerate() {
-        let digit = u8::from(*bit);
-        writeln!(text, "{w} {digit}")?;
-    }
-    Ok(())
-}
 
 // Adds the line of the output bits.
 pub fn add_outputs(text: &mut String, outputs: &[u8]) -> Result<(), AllocError>

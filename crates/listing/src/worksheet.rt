@@ -3,7 +3,6 @@ ghost use Rattle.std.specs.Prelude.{◌≡◌, ℕ, List, ◌<◌, ◌≤◌, fa
 ghost use Rattle.labels.specs.Papers.{paper};
 ghost use Rattle.hashes.specs.Draws.{offset};
 ghost use Rattle.hashes.specs.PaperHash.{paper_hash};
-ghost use Rattle.circuit.specs.Header.{words_in};
 ghost use Rattle.circuit.specs.Gates.{wires_in};
 ghost use Rattle.circuit.specs.Parts.{parts_of};
 ghost use Rattle.plain.specs.Plain.{bit_in, plain_bit, plain_refusal};
@@ -12,19 +11,17 @@ ghost use Rattle.settlement.specs.declared.line.Line.{Line};
 ghost use Rattle.labels.specs.declared.paper.Paper.{Paper};
 ghost use Rattle.exchange.specs.Planned.{whole_refusal};
 ghost use Rattle.exchange.specs.Outcome.{Outcome};
-ghost use Rattle.listing.specs.Lines.{out_line};
+ghost use Rattle.listing.specs.Lines.{out_line, text_unless};
 ghost use Rattle.listing.specs.Sheet.{offset_line, label_lines, material_line};
-ghost use Rattle.listing.specs.Work.{Cut};
-ghost use Rattle.listing.specs.Worksheet.{input_refusal, sheet_of, text_unless, worksheet_text};
+ghost use Rattle.listing.specs.Worksheet.{sheet_of, worksheet_text};
 
-use crate::ending::wipe_both;
+use crate::input::{Input, cut_input};
 use crate::lines::{add_outputs, refused};
 use crate::sheet::{add_labels, add_material, add_offset};
-use circuit::header::{header, within_limits};
 use circuit::refusal::Refusal;
-use circuit::sizes::Sizes;
 use evaluator::record::Evaluator;
-use exchange::room::{Room, lend};
+use exchange::ending::wipe_both;
+use exchange::room::Room;
 use exchange::whole::run;
 use garbler::record::Garbler;
 use hashes::draws::draw;
@@ -32,45 +29,8 @@ use hashes::paper::{PaperFunction, PaperHash};
 use labels::kind::Label;
 use labels::paper::Paper;
 use plain::run::plain;
-use settlement::lent::Lent;
+use settlement::lent::{Lent, lend};
 use std::alloc::{AllocError, Global};
-
-// An input: a circuit, two seed bytes and a byte for each input bit.
-#[derive(Clone, Copy)]
-pub struct Input<'a> {
-    pub circuit: &'a [u8],
-    pub seed: &'a [u8],
-    pub bits: &'a [u8],
-}
-
-// The words of a circuit.
-fn words_of(s: Sizes) -> usize
-    ensures { result ≡ words_in s }
-{
-    5 + 2 * usize::from(s.gates)
-        + usize::from(s.operands)
-        + usize::from(s.rows)
-        + usize::from(s.outputs)
-}
-
-// Cuts an input into its parts.
-pub fn cut_input(input: &[u8]) -> Result<Input<'_>, Refusal>
-    ensures { MatchResult result (λ p. Cut input.now p) (λ why. input_refusal input.now ≡ Some why) }
-{
-    let (sizes, _) = header(input)?;
-    if !within_limits(sizes) {
-        return Err(Refusal::Size);
-    }
-    let end = 2 * words_of(sizes);
-    if input.len() != end + 2 + usize::from(sizes.inputs) {
-        return Err(Refusal::Length);
-    }
-    Ok(Input {
-        circuit: &input[0..end],
-        seed: &input[end..end + 2],
-        bits: &input[end + 2..input.len()],
-    })
-}
 
 // The offset that the seed gives.
 fn offset_of(seed: &[u8]) -> Paper
@@ -136,7 +96,7 @@ fn written(heap: Global, p: Input, lent: &Lent<Paper>) -> Result<String, AllocEr
 // Runs both sides, writes down what they hold, and then wipes them, also where there is no memory for the text.
 fn work(heap: Global, p: Input) -> Result<String, AllocError>
     requires { length p.seed.now ≡ 2 }
-    ensures { IfOk result (λ t. string_bytes t ≡ text_unless p.entry.circuit.now p.entry.seed.now p.entry.bits.now (whole_refusal paper paper_hash p.entry.circuit.now p.entry.seed.now p.entry.bits.now)) }
+    ensures { IfOk result (λ t. string_bytes t ≡ text_unless (whole_refusal paper paper_hash p.entry.circuit.now p.entry.seed.now p.entry.bits.now) (sheet_of p.entry.circuit.now p.entry.seed.now p.entry.bits.now)) }
 {
     let mut room: Room<Paper> = match Room::furnish(heap, p.circuit, p.seed, p.bits)? {
         Ok(room) => room,

@@ -3,7 +3,7 @@ use Rattle.std.proofs.Common.{◌≡◌, ℕ, ◌+◌, ◌-◌, ◌*◌, ◌≤�
 use borrow.Rule.Slice.PartMut.{put_mid, post_of}
 use Rattle.std.proofs.lemmas.List.{drop-drop, length-drop, length-take-le}
 use Rattle.std.proofs.lemmas.Bool.{le-ltb}
-use Rattle.circuit.specs.Check.{circuit_refusal, size_refusal, gates_refusal, outputs_refusal}
+use Rattle.circuit.specs.Check.{circuit_refusal, size_refusal, gates_refusal, list_refusal}
 use Rattle.circuit.specs.Header.{sizes_of, within, words_in}
 use Rattle.circuit.specs.Parts.{parts_of}
 use Rattle.circuit.specs.Refusals.{first_of, or_else}
@@ -33,7 +33,7 @@ module _ (bytes : List ℕ) where
   pub passed_long : circuit_refusal bytes ≡ None → length bytes ≡ 2 * words_in (sizes_of bytes)
   unfolding circuit_refusal
   passed_long e =
-      let p = (or_else_none (size_refusal bytes) (or_else (gates_refusal (parts_of bytes) (sizes_of bytes).gates) (outputs_refusal (parts_of bytes))) e).0 in
+      let p = (or_else_none (size_refusal bytes) (or_else (gates_refusal (parts_of bytes) (sizes_of bytes).gates) (list_refusal (parts_of bytes))) e).0 in
       eqb-true (length bytes) (2 * words_in (sizes_of bytes)) (last_of (ltb (length bytes) 10) (not (within (sizes_of bytes))) (eqb (length bytes) (2 * words_in (sizes_of bytes))) _ _ _ p)
 
   pub copy_passes : (room : ℕ) → circuit_refusal bytes ≡ None → length bytes ≤ room → copy_refusal bytes room ≡ None

@@ -2,7 +2,7 @@
 use Rattle.std.specs.Prelude.{ℕ, List, ◌==◌, slice_index}
 use Rattle.labels.specs.Kind.{Kind, differs}
 use Rattle.labels.specs.Numbers.{digit}
-use Rattle.circuit.specs.Words.{word_at}
+use Rattle.labels.specs.Words.{word_at}
 use Rattle.tables.specs.Material.{listed}
 use Rattle.tables.specs.Table.{places}
 

@@ -2,7 +2,8 @@
 ghost use Rattle.std.specs.Prelude.{◌≡◌, ◌*◌, ◌/◌, ◌<◌, true, length, ◌==◌};
 ghost use Rattle.labels.specs.Kind.{differs};
 ghost use Rattle.labels.specs.Numbers.{digit};
-ghost use Rattle.circuit.specs.Words.{word_at, all_below};
+ghost use Rattle.labels.specs.Words.{word_at};
+ghost use Rattle.circuit.specs.Words.{all_below};
 ghost use Rattle.tables.specs.Table.{places};
 ghost use Rattle.memory.specs.Outputs.{colours_of, decoded_of};
 

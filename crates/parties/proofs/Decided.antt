@@ -1,6 +1,6 @@
 -- The outputs of the side's own circuit. Assumes nothing.
 use Rattle.std.proofs.Common.{◌≡◌, ℕ, ◌<◌, ◌≤◌, List, ap, ◌∙◌, arith}
-use Rattle.circuit.specs.Words.{word_at}
+use Rattle.labels.specs.Words.{word_at}
 use Rattle.circuit.specs.Parts.{Parts}
 use Rattle.circuit.specs.Gates.{output_of, wires_in}
 use Rattle.circuit.specs.Passed.{Passed}

@@ -7,7 +7,7 @@ use Rattle.circuit.specs.Forms.{known}
 use Rattle.circuit.specs.Gates.{form_of, past_arrays, in_order, rows_fit, output_of, made_before, wires_in}
 use Rattle.circuit.specs.Header.{sizes_of, within, words_in}
 use Rattle.circuit.specs.Refusals.{number_of, first_of, or_else}
-use Rattle.circuit.specs.Check.{size_refusal, shape_refusal, wires_refusal, gate_refusal, gates_refusal, outputs_refusal, circuit_refusal, most_wires}
+use Rattle.circuit.specs.Check.{size_refusal, shape_refusal, wires_refusal, gate_refusal, gates_refusal, list_refusal, circuit_refusal, most_wires}
 use Rattle.circuit.specs.declared.refusal.Refusal.{Refusal}
 use Rattle.circuit.specs.declared.refusal.Refusal.TheVariants.{Short, Size, Length, UnknownForm, PastArray, TooManyWires, NotMade, WideRow, Turn, Memory}
 use Rattle.parties.specs.Refusing.{begin_refusal}
@@ -53,7 +53,7 @@ circuit_early bytes =
     (test_early (ltb (length bytes) 10) Short ((not (within (sizes_of bytes)), Size) ∷ (not (eqb (length bytes) (2 * words_in (sizes_of bytes))), Length) ∷ []) (omega arith)
     (test_early (not (within (sizes_of bytes))) Size ((not (eqb (length bytes) (2 * words_in (sizes_of bytes))), Length) ∷ []) (omega arith)
     (test_early (not (eqb (length bytes) (2 * words_in (sizes_of bytes)))) Length [] (omega arith) none_early)))
-    (or_early (gates_refusal (parts_of bytes) (sizes_of bytes).gates) (outputs_refusal (parts_of bytes)) (gates_early (parts_of bytes) (sizes_of bytes).gates) (test_early (not (all_below (output_of (parts_of bytes)) (sizes_of bytes).outputs (wires_in (parts_of bytes)))) (NotMade (sizes_of bytes).gates) [] (omega arith) none_early))
+    (or_early (gates_refusal (parts_of bytes) (sizes_of bytes).gates) (list_refusal (parts_of bytes)) (gates_early (parts_of bytes) (sizes_of bytes).gates) (test_early (not (all_below (output_of (parts_of bytes)) (sizes_of bytes).outputs (wires_in (parts_of bytes)))) (NotMade (sizes_of bytes).gates) [] (omega arith) none_early))
 
 pub begin_not_16 : (bytes : List ℕ) (turn : Bool) (wires : ℕ) (why : Refusal) → begin_refusal bytes turn wires ≡ Some why → eqb (number_of why) 16 ≡ false
 unfolding Early

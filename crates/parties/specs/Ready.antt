@@ -1,7 +1,8 @@
 -- What a decision hands to the action behind it. Assumes nothing.
 use Rattle.std.specs.Prelude.{◌≡◌, ℕ, ◌+◌, ◌*◌, ◌^◌, ◌<◌, ◌≤◌, true, List, length}
 use Rattle.labels.specs.Kind.{Kind}
-use Rattle.circuit.specs.Words.{word_at, all_below}
+use Rattle.labels.specs.Words.{word_at}
+use Rattle.circuit.specs.Words.{all_below}
 use Rattle.circuit.specs.Parts.{Parts, parts_of}
 use Rattle.circuit.specs.Gates.{form_of, made_before, wires_in}
 use Rattle.circuit.specs.Check.{most_wires}

@@ -8,7 +8,7 @@ use Rattle.hashes.specs.PaperHash.{paper_hash}
 use Rattle.gates.specs.Half.{garbled, joined}
 use Rattle.tables.specs.Gate.{drawn, material, zero_labels, evaluated, garbler_calls, evaluator_calls}
 use Rattle.material.specs.Size.{bits_of}
-use Rattle.tables.specs.Material.{row_word}
+use Rattle.labels.specs.Words.{word_at}
 
 abbrev pub seed : Paper
 seed = of_word 0x0031
@@ -36,7 +36,7 @@ and_label a b = joined paper paper_hash 0 and_gate.0 and_gate.1 a b
 
 -- the table n = 1, m = 2 with rows 2, 1, as gate 0 on input 0
 abbrev pub row : ℕ → ℕ
-row = row_word (2 ∷ 0 ∷ 1 ∷ 0 ∷ [])
+row = word_at (2 ∷ 0 ∷ 1 ∷ 0 ∷ [])
 
 abbrev pub table_material : List ℕ
 table_material = material paper paper_hash 0 1 2 (drawn paper paper_hash 0 1 2 seed) Δ (λ _. A) row

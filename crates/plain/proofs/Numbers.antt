@@ -6,23 +6,6 @@ use Rattle.std.proofs.lemmas.Nat.{shl_whole}
 use Rattle.std.proofs.lemmas.Bool.{cases_Bool, cases_order}
 use Rattle.labels.specs.Numbers.{digit, number}
 
-pub number_below : (n : ℕ) (x : ℕ → Bool) → number n x < 2 ^ n
-number_below zero x = omega arith
-number_below (suc n) x =
-    let p : 2 ^ suc n ≡ 2 * 2 ^ n = pow-succ' 2 n in
-    let r : number n x < 2 ^ n = number_below n x in
-    elim (cases_Bool (x n)) [
-      | inl e ↦ (let d : digit (x n) ≡ 1 = ap digit e in let s : digit (x n) * 2 ^ n ≡ 2 ^ n = rw d (omega arith) in omega arith)
-      | inr e ↦ (let d : digit (x n) ≡ 0 = ap digit e in let s : digit (x n) * 2 ^ n ≡ 0 = rw d (omega arith) in omega arith)
-    ]
-
-pub number_same : (n : ℕ) (x y : ℕ → Bool) → ((i : ℕ) → i < n → x i ≡ y i) → number n x ≡ number n y
-number_same zero x y e = refl
-number_same (suc n) x y e =
-    let here : x n ≡ y n = e n (omega arith) in
-    let rest : number n x ≡ number n y = number_same n x y (λ i l. e i (omega arith)) in
-    ap₂ (λ (b : Bool) (k : ℕ). digit b * 2 ^ n + k) here rest
-
 -- a bit moved up to place j, over a number of j bits
 pub shifted_fits : (j row b w : ℕ) → row < 2 ^ j → b ≤ 1 → j < w → row + b * 2 ^ j % 2 ^ w < 2 ^ w
 shifted_fits j row b w r h l =

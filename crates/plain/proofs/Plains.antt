@@ -4,7 +4,7 @@ use Rattle.std.proofs.lemmas.Bool.{eq-eqb, ne_eqb, cases_Bool}
 use Rattle.std.proofs.lemmas.Bool.Decides.{nat_tests}
 use Rattle.labels.specs.Kind.{differs}
 use Rattle.labels.specs.Numbers.{bit, number}
-use Rattle.circuit.specs.Words.{word_at}
+use Rattle.labels.specs.Words.{word_at}
 use Rattle.circuit.specs.Forms.{known, is_table, fan_in, reads, makes}
 use Rattle.circuit.specs.Parts.{Parts}
 use Rattle.circuit.specs.Gates.{form_of, operand_of, row_of, rows_from, made_before, in_order}
@@ -18,7 +18,7 @@ use Rattle.circuit.proofs.Stretches.{word_of_part}
 use Rattle.wires.proofs.Growth.{filled_grown}
 use Rattle.wires.proofs.Made.{wire_kept, wire_fresh, wire_stays}
 use Rattle.circuit.proofs.GateParts.{gate_operand, made_rises}
-use Rattle.plain.proofs.Numbers.{number_below, number_same}
+use Rattle.labels.proofs.Numbers.{number_below, number_same}
 
 module _ (c : Parts) (g : ℕ) where
   -- a gate of the code tells its rule

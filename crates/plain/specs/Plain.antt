@@ -2,8 +2,9 @@
 use Rattle.std.specs.Prelude.{◌≡◌, ℕ, ◌+◌, ◌<◌, Bool, false, cond, not, ◌&&◌, ◌||◌, List, [], ◌∷◌, length, get_or, None, Option, ◌==◌, nat_lt, slice_index, slice_index_or}
 use Rattle.labels.specs.Kind.{differs}
 use Rattle.labels.specs.Numbers.{bit, digit, number}
+use Rattle.labels.specs.Words.{word_at}
 use Rattle.circuit.specs.Refusals.{first_of, or_else}
-use Rattle.circuit.specs.Words.{word_at, all_below}
+use Rattle.circuit.specs.Words.{all_below}
 use Rattle.circuit.specs.Parts.{Parts, parts_of}
 use Rattle.circuit.specs.Forms.{fan_in, makes}
 use Rattle.circuit.specs.Gates.{form_of, operand_of, row_of, output_of, made_before, wires_in}

@@ -1,6 +1,7 @@
 // The wires of one gate.
 ghost use Rattle.std.specs.Prelude.{◌≡◌, ◌+◌, ◌/◌, ◌≤◌, true, false, length, slice_index_or};
-ghost use Rattle.circuit.specs.Words.{word_at, all_below};
+ghost use Rattle.labels.specs.Words.{word_at};
+ghost use Rattle.circuit.specs.Words.{all_below};
 ghost use Rattle.circuit.specs.Lent.{Shaped, operands_in, new_in};
 ghost use Rattle.plain.specs.Plain.{new_bit};
 ghost use Rattle.wires.specs.Wires.{Grown};

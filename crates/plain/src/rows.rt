@@ -1,7 +1,8 @@
 // A table's rows: the one that the operands choose, and its bits.
 ghost use Rattle.std.specs.Prelude.{◌≡◌, ℕ, ◌+◌, ◌*◌, ◌/◌, ◌^◌, ◌<◌, ◌≤◌, true, false, length, slice_index_or};
 ghost use Rattle.labels.specs.Numbers.{bit as bit_of, number as number_from};
-ghost use Rattle.circuit.specs.Words.{word_at, all_below};
+ghost use Rattle.labels.specs.Words.{word_at};
+ghost use Rattle.circuit.specs.Words.{all_below};
 
 use circuit::words::word_at;
 use wires::Wires;

@@ -1,7 +1,8 @@
 // Plain evaluation: every wire's bit, in the clear.
 ghost use Rattle.std.specs.Prelude.{◌≡◌, ℕ, ◌*◌, ◌<◌, ◌≤◌, true, false, length, Some, MatchResult, slice_index, slice_index_or};
 ghost use Rattle.labels.specs.Numbers.{digit};
-ghost use Rattle.circuit.specs.Words.{word_at, all_below};
+ghost use Rattle.labels.specs.Words.{word_at};
+ghost use Rattle.circuit.specs.Words.{all_below};
 ghost use Rattle.circuit.specs.Lent.{parts_in};
 ghost use Rattle.plain.specs.Plain.{bit_in, plain_bit, plain_refusal, Evaluated};
 ghost use Rattle.plain.specs.Ready.{Ready};

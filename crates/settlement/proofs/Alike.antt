@@ -52,8 +52,8 @@ module _ {L : Type 0} (K : Kind L) (r o : Settlement L) (n m : ℕ) (r_ran : Ran
 
   held_next : (k : ℕ) → k < n → k < m → Held k → (bare (line_at o.lines k).answer ≡ bare (line_at r.lines k).answer) × Held (suc k)
   held_next k l h held =
-      let p = r_ran.step k l in
-      let q = o_ran.step k h in
+      let p = r_ran.follows.step k l in
+      let q = o_ran.follows.step k h in
       let lengths = lengths_kept (r.at k) (o.at k) (r.at (suc k)) (o.at (suc k)) held.lengths
       (step_lengths K r.garbler_hash r.evaluator_hash r.circuit (r.at k) (line_at r.lines k).answer (r.at (suc k)) (call_at r.calls k) p)
       (step_lengths K o.garbler_hash o.evaluator_hash o.circuit (o.at k) (line_at o.lines k).answer (o.at (suc k)) (call_at o.calls k) q)
@@ -85,8 +85,8 @@ module _ {L : Type 0} (K : Kind L) (r o : Settlement L) (n m : ℕ) (r_ran : Ran
       let next = held_next k l h (held_at k (omega arith) (omega arith)) in
       record {
         answer = next.0;
-        garbler_count = o_ran.garbler_counts k h ∙ next.1.sides.garbler_count ∙ sym (r_ran.garbler_counts k l);
-        evaluator_count = o_ran.evaluator_counts k h ∙ next.1.sides.evaluator_count ∙ sym (r_ran.evaluator_counts k l);
+        garbler_count = o_ran.follows.garbler_counts k h ∙ next.1.sides.garbler_count ∙ sym (r_ran.follows.garbler_counts k l);
+        evaluator_count = o_ran.follows.evaluator_counts k h ∙ next.1.sides.evaluator_count ∙ sym (r_ran.follows.evaluator_counts k l);
       }
 
 -- of every settlement alike, at a line of this one

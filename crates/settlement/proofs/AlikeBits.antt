@@ -3,8 +3,9 @@ use Rattle.std.proofs.Common.{◌≡◌, ℕ, ◌<◌, Bool, true, false, List, 
 use Rattle.std.proofs.lemmas.List.{take_at}
 use Rattle.labels.specs.Kind.{Kind}
 use Rattle.labels.specs.Numbers.{digit}
+use Rattle.labels.specs.Words.{word_at}
 use Rattle.circuit.specs.Parts.{parts_of}
-use Rattle.circuit.specs.Words.{word_at, all_below}
+use Rattle.circuit.specs.Words.{all_below}
 use Rattle.circuit.proofs.Bounds.{below_all}
 use Rattle.tables.specs.Material.{listed}
 use Rattle.tables.specs.Table.{places}
@@ -12,7 +13,7 @@ use Rattle.tables.proofs.Packing.{length_listed, get_or_listed}
 use Rattle.settlement.specs.State.{State}
 use Rattle.settlement.specs.Stands.{colours_by}
 use Rattle.settlement.specs.Accepted.{Accepted}
-use Rattle.settlement.specs.Runs.{Step}
+use Rattle.settlement.specs.Made.{Step}
 use Rattle.settlement.specs.declared.call.Call.{Call}
 use Rattle.settlement.specs.declared.call.Call.TheVariants.{Garble, Encode, Deliver, Evaluate, Colours, Decode, Certify}
 use Rattle.settlement.specs.declared.line.Answer.{Answer}

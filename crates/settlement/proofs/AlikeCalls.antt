@@ -22,7 +22,7 @@ use Rattle.settlement.specs.State.{State}
 use Rattle.settlement.specs.Lines.{bare}
 use Rattle.settlement.specs.Stands.{is_shown, colours_by, stands, refusal}
 use Rattle.settlement.specs.Accepted.{Accepted}
-use Rattle.settlement.specs.Runs.{Step}
+use Rattle.settlement.specs.Made.{Step}
 use Rattle.settlement.specs.Alike.{SameCall, SameLengths}
 use Rattle.settlement.specs.declared.call.Call.{Call}
 use Rattle.settlement.specs.declared.call.Call.TheVariants.{Garble, Encode, Deliver, Evaluate, Colours, Decode, Certify}
@@ -244,10 +244,10 @@ module _ {L : Type 0} (K : Kind L) (r o : List ℕ) (turns : SameTurns r o) (cop
     module _ (x : Call) (y : ℕ) (low : ltb 1 y ≡ ltb 1 (bit_in x)) (p : Step K F E r s x a u) (q : Step K F' E' o t (with_bit x y) b v) where
       standing_same : stands s x ≡ true → (w : Option Refusal) → refusal s K r x ≡ w → After a b u v
       standing_same e (Some why) f =
-          let m = p.refused why e f in
-          let n = q.refused why (stands_same x y ∙ e) (refusal_same x y e low ∙ f) in
+          let m = (p.made e).refused why f in
+          let n = (q.made (stands_same x y ∙ e)).refused why (refusal_same x y e low ∙ f) in
           stayed m.1 n.1 (ap bare n.0 ∙ sym (ap bare m.0))
-      standing_same e None f = accepted_same x y (p.accepted e f) (q.accepted (stands_same x y ∙ e) (refusal_same x y e low ∙ f))
+      standing_same e None f = accepted_same x y ((p.made e).accepted f) ((q.made (stands_same x y ∙ e)).accepted (refusal_same x y e low ∙ f))
 
       made_same : After a b u v
       made_same = elim (cases_Bool (stands s x)) [

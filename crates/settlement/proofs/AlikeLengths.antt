@@ -11,9 +11,9 @@ use Rattle.steps.specs.Gate.{gate_material}
 use Rattle.tables.specs.Table.{places}
 use Rattle.tables.proofs.Packing.{length_listed}
 use Rattle.settlement.specs.State.{State}
-use Rattle.settlement.specs.Stands.{refusal, input_label}
+use Rattle.settlement.specs.Stands.{refusal, sent_label}
 use Rattle.settlement.specs.Accepted.{Accepted}
-use Rattle.settlement.specs.Runs.{Step}
+use Rattle.settlement.specs.Made.{Step}
 use Rattle.settlement.specs.Alike.{SameLengths}
 use Rattle.settlement.specs.declared.call.Call.{Call}
 use Rattle.settlement.specs.declared.call.Call.TheVariants.{Garble, Encode, Deliver, Evaluate, Colours, Decode, Certify}
@@ -92,7 +92,7 @@ module _ {L : Type 0} (K : Kind L) (F E : L → ℕ → L) (bytes : List ℕ) (s
   }
   accepted_lengths (Deliver i) free acc = record {
     zeros = ap (λ (z : State L). length z.zeros) acc.leaves;
-    labels = ap (λ (z : State L). length z.labels) acc.leaves ∙ length-set s.labels i (input_label s K i);
+    labels = ap (λ (z : State L). length z.labels) acc.leaves ∙ length-set s.labels i (sent_label s K i);
     scratch = ap (λ (z : State L). length z.scratch) acc.leaves;
     material = ap (λ (z : State L). length z.material) acc.leaves;
     colours = ap (λ (z : State L). length z.colours) acc.leaves;

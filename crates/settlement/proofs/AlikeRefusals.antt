@@ -1,7 +1,8 @@
 -- Circuits alike in all but the rows refuse alike. Assumes nothing.
 use Rattle.std.proofs.Common.{◌≡◌, ℕ, ◌+◌, ◌*◌, Bool, not, ◌&&◌, ◌||◌, eqb, leb, ltb, List, [], ◌∷◌, length, replicate, slice_index, None, refl, sym, ap, ◌∙◌}
 use Rattle.labels.specs.Kind.{Kind}
-use Rattle.circuit.specs.Words.{word_at, all_below}
+use Rattle.labels.specs.Words.{word_at}
+use Rattle.circuit.specs.Words.{all_below}
 use Rattle.circuit.specs.Parts.{Parts, parts_of}
 use Rattle.circuit.specs.Gates.{form_of, wires_in}
 use Rattle.circuit.specs.Material.{gate_bytes}

@@ -21,7 +21,7 @@ use Rattle.parties.specs.Side.{marked}
 use Rattle.garbler.specs.Garbling.{encoded}
 use Rattle.evaluator.specs.Evaluating.{Stepped}
 use Rattle.settlement.specs.State.{State, by_encode, by_deliver, by_evaluate, by_colours, by_decode}
-use Rattle.settlement.specs.Stands.{refusal, input_label, colours_by}
+use Rattle.settlement.specs.Stands.{refusal, sent_label, colours_by}
 use Rattle.settlement.specs.Accepted.{Accepted}
 use Rattle.settlement.specs.Made.{Made}
 use Rattle.settlement.specs.declared.call.Call.{Call}
@@ -95,7 +95,7 @@ module _ {L : Type 0} (K : Kind L) (F E : L → ℕ → L) (bytes : List ℕ) (s
 module _ {L : Type 0} (K : Kind L) (F E : L → ℕ → L) (bytes copy : List ℕ) (ec : copy ≡ open_copy bytes) (s t : State L) where
   pub deliver_accepted : (input : ℕ) (label : L)
       → deliver_refusal s.evaluator copy (length s.labels) input ≡ None
-      → label ≡ input_label s K input
+      → label ≡ sent_label s K input
       → t ≡ by_deliver s (marked s.evaluator input) (slice_set s.labels input label)
       → Made K F E bytes (Deliver input) s Answers.Delivered t
   deliver_accepted input label free e et =

@@ -26,7 +26,7 @@ use Rattle.settlement.specs.declared.call.Call.TheVariants.{Certify}
 use Rattle.settlement.specs.declared.line.Answer.{Answer}
 use Rattle.settlement.specs.declared.line.Answer.TheVariants.{NotMade, Refused, Garbled, Encoded, Delivered, Evaluated, Coloured, Decoded, Certified}
 use Rattle.settlement.specs.Lines.{is_accepted}
-use Rattle.settlement.specs.Runs.{Step}
+use Rattle.settlement.specs.Made.{Step}
 use Rattle.settlement.proofs.Circuits.{outputs_made}
 use Rattle.settlement.proofs.Facts.{output_free}
 use Rattle.settlement.proofs.Turning.{true_false, not_true}
@@ -144,9 +144,9 @@ module _ {L : Type 0} (K : Kind L) (F : L → ℕ → L) (bytes : List ℕ) (see
 module _ {L : Type 0} (K : Kind L) (F : L → ℕ → L) (bytes : List ℕ) (seed : L) (passes : circuit_refusal bytes ≡ None) (coloured : K.colour (offset F seed K) ≡ true)
     (s : State L) (x : ℕ → Bool) (tied : Tied K F bytes seed s x) (k : ℕ) (E : L → ℕ → L) (a : Answer L) (t : State L) (step : Step K F E bytes s (Certify k) a t) (e : a ≡ Refused Foreign) where
   judged : stands s (Certify k) ≡ true → (o : Option Refusal) → refusal s K bytes (Certify k) ≡ o → ⊥
-  judged standing None free = true_false true refl (sym (ap is_accepted (step.accepted standing free).answer) ∙ ap is_accepted e)
+  judged standing None free = true_false true refl (sym (ap is_accepted ((step.made standing).accepted free).answer) ∙ ap is_accepted e)
   judged standing (Some why) f =
-      let same : ◌≡◌ {A = Answer L} (Refused why) (Refused Foreign) = sym (step.refused why standing f).0 ∙ e in
+      let same : ◌≡◌ {A = Answer L} (Refused why) (Refused Foreign) = sym ((step.made standing).refused why f).0 ∙ e in
       let it : why ≡ Foreign = cc in
       certify_known K F bytes seed passes coloured s x tied k standing (f ∙ ap Some it)
 

@@ -13,13 +13,13 @@ use Rattle.circuit.specs.declared.refusal.Refusal.TheVariants.{Short, Size, Leng
 use Rattle.circuit.proofs.Bounds.{each_below}
 use Rattle.circuit.proofs.Checks.{or_else_none, only_none}
 use Rattle.circuit.proofs.Circuits.{within_inputs}
-use Rattle.gates.specs.Bytes.{part}
+use Rattle.gates.specs.Bytes.{bytes_at}
 use Rattle.steps.specs.Whole.{zero_label, material_at, material_before}
 use Rattle.laws.proofs.Lengths.{material_long}
 use Rattle.settlement.proofs.Facts.{passed}
 
 -- a part of the front of two lists, a whole list, and an empty one
-front : (xs ys : List ℕ) (at size : ℕ) → at + size ≤ length xs → part at size (xs ++ ys) ≡ part at size xs
+front : (xs ys : List ℕ) (at size : ℕ) → at + size ≤ length xs → bytes_at at size (xs ++ ys) ≡ bytes_at at size xs
 front xs ys at size l =
     let d = length-drop at xs in
     ap (take size) (drop-append-le at xs ys (omega arith)) ∙ take-append-le size (drop at xs) ys (omega arith)
@@ -78,7 +78,7 @@ module _ {L : Type 0} (K : Kind L) (F : L → ℕ → L) (seed : L) (c : Parts) 
       ]
 
   -- a gate's own part, in the material of more gates
-  part_below : (g n : ℕ) → g < n → part (length (mat g)) (gate_bytes (8 * K.width) (form_of c g)) (mat n) ≡ material_at K F seed c g
+  part_below : (g n : ℕ) → g < n → bytes_at (length (mat g)) (gate_bytes (8 * K.width) (form_of c g)) (mat n) ≡ material_at K F seed c g
   part_below g zero l = absurd (omega arith)
   part_below g (suc n) l =
       let e = next_long g in
@@ -87,18 +87,18 @@ module _ {L : Type 0} (K : Kind L) (F : L → ℕ → L) (seed : L) (c : Parts) 
             let i = part_below g n h in
             let long = longer (suc g) n h in
             let d : length (mat g) ≤ length (mat n) = omega arith in
-            ap (λ (xs : List ℕ). part (length (mat g)) (gate_bytes (8 * K.width) (form_of c g)) xs) (material_next n) ∙ front (mat n) (material_at K F seed c n) (length (mat g)) (gate_bytes (8 * K.width) (form_of c g)) (omega arith) ∙ i)
+            ap (λ (xs : List ℕ). bytes_at (length (mat g)) (gate_bytes (8 * K.width) (form_of c g)) xs) (material_next n) ∙ front (mat n) (material_at K F seed c n) (length (mat g)) (gate_bytes (8 * K.width) (form_of c g)) (omega arith) ∙ i)
         | inr h ↦ (
             let q : n ≡ g = omega arith in
             let m : mat (suc n) ≡ mat g ++ material_at K F seed c g = ap (λ (k : ℕ). mat (suc k)) q ∙ material_next g in
-            ap (λ (xs : List ℕ). part (length (mat g)) (gate_bytes (8 * K.width) (form_of c g)) xs) m
+            ap (λ (xs : List ℕ). bytes_at (length (mat g)) (gate_bytes (8 * K.width) (form_of c g)) xs) m
             ∙ ap (take (gate_bytes (8 * K.width) (form_of c g))) (drop_at (mat g) (material_at K F seed c g) (length (mat g)) refl)
             ∙ whole (material_at K F seed c g) (gate_bytes (8 * K.width) (form_of c g)) (at_long g))
       ]
 
   -- the part that the evaluator reads, wherever there are enough bytes: also where it is ahead by gates without any
   pub part_is : (g n : ℕ) → length (material_before K F seed c g) + gate_bytes (8 * K.width) (form_of c g) ≤ length (material_before K F seed c n)
-      → part (length (material_before K F seed c g)) (gate_bytes (8 * K.width) (form_of c g)) (material_before K F seed c n) ≡ material_at K F seed c g
+      → bytes_at (length (material_before K F seed c g)) (gate_bytes (8 * K.width) (form_of c g)) (material_before K F seed c n) ≡ material_at K F seed c g
   part_is g n l =
       elim (cases_lt g n) [
         | inl h ↦ part_below g n h
@@ -106,5 +106,5 @@ module _ {L : Type 0} (K : Kind L) (F : L → ℕ → L) (seed : L) (c : Parts) 
             let b = longer n g h in
             let z : gate_bytes (8 * K.width) (form_of c g) ≡ 0 = omega arith in
             let e = at_long g in
-            ap (λ (k : ℕ). part (length (mat g)) k (mat n)) z ∙ sym (empty (material_at K F seed c g) (omega arith)))
+            ap (λ (k : ℕ). bytes_at (length (mat g)) k (mat n)) z ∙ sym (empty (material_at K F seed c g) (omega arith)))
       ]

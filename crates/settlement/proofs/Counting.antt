@@ -10,7 +10,7 @@ use Rattle.laws.proofs.Opening.{parts_open, calls_open}
 use Rattle.settlement.specs.State.{State}
 use Rattle.settlement.specs.Lines.{is_accepted}
 use Rattle.settlement.specs.Accepted.{Accepted}
-use Rattle.settlement.specs.Runs.{Step}
+use Rattle.settlement.specs.Made.{Step}
 use Rattle.settlement.specs.Claims.{garbler_cost, evaluator_cost}
 use Rattle.settlement.specs.declared.call.Call.{Call}
 use Rattle.settlement.specs.declared.call.Call.TheVariants.{Garble, Encode, Deliver, Evaluate, Colours, Decode, Certify}

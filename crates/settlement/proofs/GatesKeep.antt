@@ -12,14 +12,14 @@ use Rattle.circuit.specs.Forms.{makes}
 use Rattle.circuit.specs.Gates.{form_of, made_before}
 use Rattle.circuit.specs.Material.{gate_bytes}
 use Rattle.circuit.specs.Check.{circuit_refusal}
-use Rattle.gates.specs.Bytes.{laid, part}
+use Rattle.gates.specs.Bytes.{laid, bytes_at}
 use Rattle.plain.specs.Plain.{plain_bit}
 use Rattle.steps.specs.Gate.{new_zeros, gate_material, new_labels}
 use Rattle.steps.specs.Whole.{zero_label, material_at, material_before}
 use Rattle.tables.specs.Table.{places}
 use Rattle.memory.specs.Copy.{open_copy}
 use Rattle.laws.specs.Opened.{opened}
-use Rattle.laws.specs.Ordered.{Ordered}
+use Rattle.laws.proofs.Ordered.{Ordered}
 use Rattle.laws.proofs.Order.{ordered_check, made_next, inputs_within}
 use Rattle.laws.proofs.Same.{zeros_same, material_same}
 use Rattle.laws.proofs.Lengths.{material_long}
@@ -133,7 +133,7 @@ module _ {L : Type 0} (K : Kind L) (F : L → ℕ → L) (bytes : List ℕ) (see
 
   pub evaluate_keeps : K.colour (offset F seed K) ≡ true → (n : ℕ) → refusal s K bytes (Evaluate n) ≡ None → (labels scratch : List L) (count : ℕ)
       → Grown s.evaluator.made (makes (form_of (parts_of (open_copy bytes)) s.evaluator.next))
-      (places K (new_labels (parts_of (open_copy bytes)) s.evaluator.next K (places K s.labels) F (part s.evaluator.bytes (gate_bytes (8 * K.width) (form_of (parts_of (open_copy bytes)) s.evaluator.next)) (take s.garbler.bytes s.material)))) s.labels labels
+      (places K (new_labels (parts_of (open_copy bytes)) s.evaluator.next K (places K s.labels) F (bytes_at s.evaluator.bytes (gate_bytes (8 * K.width) (form_of (parts_of (open_copy bytes)) s.evaluator.next)) (take s.garbler.bytes s.material)))) s.labels labels
       → Tied K F bytes seed (by_evaluate s
       (stepped s.evaluator (makes (form_of (parts_of (open_copy bytes)) s.evaluator.next)) (gate_bytes (8 * K.width) (form_of (parts_of (open_copy bytes)) s.evaluator.next)))
       labels scratch count) x
@@ -154,10 +154,10 @@ module _ {L : Type 0} (K : Kind L) (F : L → ℕ → L) (bytes : List ℕ) (see
       let bytes_is : gate_bytes (8 * K.width) (form_of d g) ≡ gate_bytes (8 * K.width) (form_of c g) = ap (λ (q : Parts). gate_bytes (8 * K.width) (form_of q g)) p in
       let written = ap length tied.written in
       let enough = f.enough in
-      let own : part s.evaluator.bytes (gate_bytes (8 * K.width) (form_of d g)) (take s.garbler.bytes s.material) ≡ material_at K F seed c g =
-      (λ i. part (bytes_now i) (bytes_is i) (tied.written i)) ∙ part_is K F seed c g s.garbler.next (omega arith)
+      let own : bytes_at s.evaluator.bytes (gate_bytes (8 * K.width) (form_of d g)) (take s.garbler.bytes s.material) ≡ material_at K F seed c g =
+      (λ i. bytes_at (bytes_now i) (bytes_is i) (tied.written i)) ∙ part_is K F seed c g s.garbler.next (omega arith)
       in
-      let news : new_labels d g K (places K s.labels) F (part s.evaluator.bytes (gate_bytes (8 * K.width) (form_of d g)) (take s.garbler.bytes s.material)) ≡ new_labels c g K (places K s.labels) F (material_at K F seed c g) =
+      let news : new_labels d g K (places K s.labels) F (bytes_at s.evaluator.bytes (gate_bytes (8 * K.width) (form_of d g)) (take s.garbler.bytes s.material)) ≡ new_labels c g K (places K s.labels) F (material_at K F seed c g) =
       (λ i. new_labels (p i) g K (places K s.labels) F (own i)) ∙ labels_open K F (material_at K F seed c g) c g (places K s.labels)
       in
       let next = made_next c g in

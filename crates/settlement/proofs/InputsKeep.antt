@@ -19,7 +19,7 @@ use Rattle.parties.specs.States.{allowed, state_of}
 use Rattle.parties.proofs.Marking.{each_marked}
 use Rattle.garbler.specs.Garbling.{encoded}
 use Rattle.settlement.specs.State.{State, by_encode, by_deliver}
-use Rattle.settlement.specs.Stands.{stands, refusal, input_label}
+use Rattle.settlement.specs.Stands.{stands, refusal, sent_label}
 use Rattle.settlement.specs.declared.call.Call.TheVariants.{Encode, Deliver}
 use Rattle.settlement.proofs.Circuits.{inputs_few}
 use Rattle.settlement.proofs.Facts.{input_free}
@@ -137,7 +137,7 @@ module _ {L : Type 0} (K : Kind L) (F : L → ℕ → L) (bytes : List ℕ) (see
       }
 
   pub deliver_keeps : (i : ℕ) → stands s (Deliver i) ≡ true → refusal s K bytes (Deliver i) ≡ None
-      → Tied K F bytes seed (by_deliver s (marked s.evaluator i) (set s.labels i (input_label s K i))) x
+      → Tied K F bytes seed (by_deliver s (marked s.evaluator i) (set s.labels i (sent_label s K i))) x
   deliver_keeps i standing free =
       let f = input_free s.evaluator (open_copy bytes) (allowed (state_of s.evaluator) DeliverCall) (length s.labels) i 0 free in
       let below = f.there in

@@ -7,7 +7,7 @@ use Rattle.settlement.specs.State.{State}
 use Rattle.settlement.specs.Lines.{is_accepted}
 use Rattle.settlement.specs.Stands.{stands, refusal}
 use Rattle.settlement.specs.Accepted.{Accepted}
-use Rattle.settlement.specs.Runs.{Step}
+use Rattle.settlement.specs.Made.{Step}
 use Rattle.settlement.specs.Claims.{noted}
 use Rattle.settlement.specs.declared.call.Call.{Call}
 use Rattle.settlement.specs.declared.call.Call.TheVariants.{Garble, Encode, Deliver, Evaluate, Colours, Decode, Certify}

@@ -7,7 +7,7 @@ use Rattle.settlement.specs.State.{State}
 use Rattle.settlement.specs.Lines.{is_accepted}
 use Rattle.settlement.specs.Stands.{stands, refusal}
 use Rattle.settlement.specs.Accepted.{Accepted}
-use Rattle.settlement.specs.Runs.{Step}
+use Rattle.settlement.specs.Made.{Step}
 use Rattle.settlement.specs.Claims.{noted}
 use Rattle.settlement.specs.declared.call.Call.{Call}
 use Rattle.settlement.specs.declared.call.Call.TheVariants.{Garble, Encode, Deliver, Evaluate, Colours, Decode, Certify}
@@ -20,8 +20,8 @@ pub data Outcome {L : Type 0} (K : Kind L) (F E : L → ℕ → L) (bytes : List
 
 by_refusal : {L : Type 0} (K : Kind L) (F E : L → ℕ → L) (bytes : List ℕ) (s : State L) (call : Call) (a : Answer L) (t : State L) → Step K F E bytes s call a t
     → stands s call ≡ true → (o : Option Refusal) → refusal s K bytes call ≡ o → Outcome K F E bytes s call a t
-by_refusal K F E bytes s call a t step standing (Some why) e = let r = step.refused why standing e in stays (ap is_accepted r.0) r.1
-by_refusal K F E bytes s call a t step standing None e = goes standing e (step.accepted standing e)
+by_refusal K F E bytes s call a t step standing (Some why) e = let r = (step.made standing).refused why e in stays (ap is_accepted r.0) r.1
+by_refusal K F E bytes s call a t step standing None e = goes standing e ((step.made standing).accepted e)
 
 pub outcome : {L : Type 0} (K : Kind L) (F E : L → ℕ → L) (bytes : List ℕ) (s : State L) (call : Call) (a : Answer L) (t : State L) → Step K F E bytes s call a t → Outcome K F E bytes s call a t
 outcome K F E bytes s call a t step =

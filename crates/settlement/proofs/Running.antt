@@ -9,8 +9,7 @@ use Rattle.settlement.specs.State.{State}
 use Rattle.settlement.specs.Lines.{call_at, line_at}
 use Rattle.settlement.specs.Stands.{stands, refusal}
 use Rattle.settlement.specs.Accepted.{Accepted}
-use Rattle.settlement.specs.Made.{Made, SameLoans}
-use Rattle.settlement.specs.Runs.{Step}
+use Rattle.settlement.specs.Made.{Made, SameLoans, Step}
 use Rattle.settlement.specs.Followed.{Followed}
 use Rattle.settlement.specs.declared.call.Call.{Call}
 use Rattle.settlement.specs.declared.call.Call.TheVariants.{Garble, Encode, Deliver, Evaluate, Colours, Decode, Certify}
@@ -25,15 +24,13 @@ module _ {L : Type 0} (K : Kind L) (F E : L → ℕ → L) (bytes : List ℕ) (s
   pub made_step : (a : Answer L) → stands s call ≡ true → Made K F E bytes call s a t → Step K F E bytes s call a t
   made_step a up m = record {
     unmade = λ e. true_false _ up e;
-    refused = λ why _ e. m.refused why e;
-    accepted = λ _ e. m.accepted e;
+    made = λ _. m;
   }
 
   pub unmade_step : stands s call ≡ false → t ≡ s → Step K F E bytes s call NotMade t
   unmade_step down e = record {
     unmade = λ _. (refl, e);
-    refused = λ why up _. true_false _ up down;
-    accepted = λ up _. true_false _ up down;
+    made = λ up. true_false _ up down;
   }
 
   -- the labels' memory keeps its length
@@ -48,8 +45,8 @@ module _ {L : Type 0} (K : Kind L) (F E : L → ℕ → L) (bytes : List ℕ) (s
 
   sent_by : (a : Answer L) (b : Bool) (o : Option Refusal) → stands s call ≡ b → refusal s K bytes call ≡ o → Step K F E bytes s call a t → length t.sent ≡ length s.sent
   sent_by a false o e f m = ap (λ (z : State L). length z.sent) (m.unmade e).1
-  sent_by a true (Some why) e f m = ap (λ (z : State L). length z.sent) (m.refused why e f).1
-  sent_by a true None e f m = sent_accepted a call (m.accepted e f)
+  sent_by a true (Some why) e f m = ap (λ (z : State L). length z.sent) ((m.made e).refused why f).1
+  sent_by a true None e f m = sent_accepted a call ((m.made e).accepted f)
 
   pub sent_long : (a : Answer L) → Step K F E bytes s call a t → length t.sent ≡ length s.sent
   sent_long a m = sent_by a _ _ refl refl m
@@ -80,9 +77,11 @@ module _ {L : Type 0} (K : Kind L) (F E : L → ℕ → L) (bytes : List ℕ) (c
     at = λ _. first;
     starts = refl;
     ends = refl;
-    step = λ k h. absurd (omega arith);
-    garbler_counts = λ k h. absurd (omega arith);
-    evaluator_counts = λ k h. absurd (omega arith);
+    follows = record {
+      step = λ k h. absurd (omega arith);
+      garbler_counts = λ k h. absurd (omega arith);
+      evaluator_counts = λ k h. absurd (omega arith);
+    };
   }
 
   module _ (lines : List (Line L)) (n : ℕ) (here new : State L) (line : Line L) (room : n < length lines) (f : Followed K F E bytes calls lines n first here) where
@@ -100,15 +99,17 @@ module _ {L : Type 0} (K : Kind L) (F E : L → ℕ → L) (bytes : List ℕ) (c
       at = then_at f.at n new;
       starts = before f.at n new 0 (omega arith) ∙ f.starts;
       ends = after f.at n new (n + 1) (omega arith);
-      step = below_more (λ k. Step K F E bytes (then_at f.at n new k) (call_at calls k) (line_at (slice_set lines n line) k).answer (then_at f.at n new (suc k))) n
-          (λ k h. step_same (f.at k) _ (f.at (suc k)) _ (call_at calls k) _ _ (before f.at n new k (omega arith)) (before f.at n new (suc k) (omega arith)) (ap (λ (z : Line L). z.answer) (line_there k h)) (f.step k h))
-          (step_same here _ new _ (call_at calls n) _ _ (before f.at n new n (omega arith) ∙ f.ends) (after f.at n new (suc n) (omega arith)) (ap (λ (z : Line L). z.answer) line_here) m);
-      garbler_counts = below_more (λ k. (line_at (slice_set lines n line) k).garbler_count ≡ (then_at f.at n new (suc k)).garbler_count) n
-          (λ k h. ap (λ (z : Line L). z.garbler_count) (line_there k h) ∙ f.garbler_counts k h ∙ sym (ap (λ (z : State L). z.garbler_count) (before f.at n new (suc k) (omega arith))))
-          (ap (λ (z : Line L). z.garbler_count) line_here ∙ g ∙ sym (ap (λ (z : State L). z.garbler_count) (after f.at n new (suc n) (omega arith))));
-      evaluator_counts = below_more (λ k. (line_at (slice_set lines n line) k).evaluator_count ≡ (then_at f.at n new (suc k)).evaluator_count) n
-          (λ k h. ap (λ (z : Line L). z.evaluator_count) (line_there k h) ∙ f.evaluator_counts k h ∙ sym (ap (λ (z : State L). z.evaluator_count) (before f.at n new (suc k) (omega arith))))
-          (ap (λ (z : Line L). z.evaluator_count) line_here ∙ e ∙ sym (ap (λ (z : State L). z.evaluator_count) (after f.at n new (suc n) (omega arith))));
+      follows = record {
+        step = below_more (λ k. Step K F E bytes (then_at f.at n new k) (call_at calls k) (line_at (slice_set lines n line) k).answer (then_at f.at n new (suc k))) n
+            (λ k h. step_same (f.at k) _ (f.at (suc k)) _ (call_at calls k) _ _ (before f.at n new k (omega arith)) (before f.at n new (suc k) (omega arith)) (ap (λ (z : Line L). z.answer) (line_there k h)) (f.follows.step k h))
+            (step_same here _ new _ (call_at calls n) _ _ (before f.at n new n (omega arith) ∙ f.ends) (after f.at n new (suc n) (omega arith)) (ap (λ (z : Line L). z.answer) line_here) m);
+        garbler_counts = below_more (λ k. (line_at (slice_set lines n line) k).garbler_count ≡ (then_at f.at n new (suc k)).garbler_count) n
+            (λ k h. ap (λ (z : Line L). z.garbler_count) (line_there k h) ∙ f.follows.garbler_counts k h ∙ sym (ap (λ (z : State L). z.garbler_count) (before f.at n new (suc k) (omega arith))))
+            (ap (λ (z : Line L). z.garbler_count) line_here ∙ g ∙ sym (ap (λ (z : State L). z.garbler_count) (after f.at n new (suc n) (omega arith))));
+        evaluator_counts = below_more (λ k. (line_at (slice_set lines n line) k).evaluator_count ≡ (then_at f.at n new (suc k)).evaluator_count) n
+            (λ k h. ap (λ (z : Line L). z.evaluator_count) (line_there k h) ∙ f.follows.evaluator_counts k h ∙ sym (ap (λ (z : State L). z.evaluator_count) (before f.at n new (suc k) (omega arith))))
+            (ap (λ (z : Line L). z.evaluator_count) line_here ∙ e ∙ sym (ap (λ (z : State L). z.evaluator_count) (after f.at n new (suc n) (omega arith))));
+      };
     }
 
 -- the same loans, one after the other

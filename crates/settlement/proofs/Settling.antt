@@ -15,10 +15,10 @@ use Rattle.memory.specs.Copy.{open_copy, copy_refusal}
 use Rattle.parties.specs.declared.side.Side.{Side}
 use Rattle.parties.specs.Refusing.{seed_refusal, open_refusal, join_refusal}
 use Rattle.settlement.specs.State.{State}
-use Rattle.settlement.specs.Runs.{Settlement, Step, Begun, Ran}
+use Rattle.settlement.specs.Runs.{Settlement, settlement_from, Begun, Ran}
 use Rattle.settlement.specs.Lines.{call_at, line_at}
-use Rattle.settlement.specs.Followed.{Followed}
-use Rattle.settlement.specs.Refused.{Room, settle_refusal}
+use Rattle.settlement.specs.Followed.{Follows, Followed}
+use Rattle.settlement.specs.Refused.{Supply, settle_refusal}
 use Rattle.settlement.specs.Settled.{Settled}
 use Rattle.settlement.specs.Refused.{own_refusal, Denied}
 use Rattle.settlement.specs.Settled.{Begins, Ended}
@@ -30,7 +30,7 @@ use Rattle.settlement.proofs.Theorem.{claims, line_claims}
 use Rattle.settlement.proofs.Alike.{line_alike}
 use Rattle.settlement.proofs.Wiping.{Held, held_at, garbler_may, evaluator_may}
 
-module _ {L : Type 0} (K : Kind L) (F : L → ℕ → L) (bytes seed : List ℕ) (garbler evaluator : Side) (zeros labels : ℕ) (room : Room) where
+module _ {L : Type 0} (K : Kind L) (F : L → ℕ → L) (bytes seed : List ℕ) (garbler evaluator : Side) (zeros labels : ℕ) (room : Supply) where
   both_refusals : settle_refusal K F bytes seed garbler evaluator zeros labels room ≡ or_else (own_refusal bytes room) (or_else (open_refusal garbler bytes K F zeros seed) (join_refusal evaluator (open_copy bytes) labels))
   unfolding settle_refusal
   both_refusals = refl
@@ -56,16 +56,7 @@ denied_later K F bytes seed own why old new e b = record {
 
 module _ {L : Type 0} (K : Kind L) (F E : L → ℕ → L) (bytes seed : List ℕ) (calls : List Call) (lines : List (Line L)) (old : State L) (at : ℕ → State L) (b : Begins K F bytes seed old (at 0)) where
   abbrev settlement : Settlement L
-  settlement = record {
-    circuit = bytes;
-    garbler_hash = F;
-    evaluator_hash = E;
-    garbler_came = old.garbler_count;
-    evaluator_came = old.evaluator_count;
-    calls = calls;
-    lines = lines;
-    at = at;
-  }
+  settlement = settlement_from old F E bytes calls lines at
 
   input_there : (i : ℕ) → i < (parts_of bytes).sizes.inputs → places K (at 0).zeros i ≡ input_zero F (at 0).seed i
   input_there i h =
@@ -74,7 +65,7 @@ module _ {L : Type 0} (K : Kind L) (F E : L → ℕ → L) (bytes seed : List �
       let t : nat_lt i (parts_of bytes).sizes.inputs ≡ true = lt-ltb i (parts_of bytes).sizes.inputs h in
       w ∙ ap (λ (c : Bool). cond c (input_zero F (K.from seed) i) K.zero) t ∙ ap (λ (l : L). input_zero F l i) (sym b.opened.seed_is)
 
-  module _ (room : Room) (own : own_refusal bytes room ≡ None) (opens : open_refusal old.garbler bytes K F (length old.zeros) seed ≡ None) (sent : 256 ≤ length old.sent) (fresh : old.shown ≡ None) (fresh_bits : old.decoded ≡ false) (fits : old.evaluator_count < 2 ^ 64) where
+  module _ (room : Supply) (own : own_refusal bytes room ≡ None) (opens : open_refusal old.garbler bytes K F (length old.zeros) seed ≡ None) (sent : 256 ≤ length old.sent) (fresh : old.shown ≡ None) (fresh_bits : old.decoded ≡ false) (fits : old.evaluator_count < 2 ^ 64) where
     begun : Begun K settlement
     begun =
         let passes = (or_else_none (circuit_refusal bytes) _ (or_else_none _ (copy_refusal bytes room.copy) own).1).0 in
@@ -98,13 +89,11 @@ module _ {L : Type 0} (K : Kind L) (F E : L → ℕ → L) (bytes seed : List �
         }
 
     settled : (last : State L)
-        → ((k : ℕ) → k < length calls → Step K F E bytes (at k) (call_at calls k) (line_at lines k).answer (at (suc k)))
-        → ((k : ℕ) → k < length calls → (line_at lines k).garbler_count ≡ (at (suc k)).garbler_count)
-        → ((k : ℕ) → k < length calls → (line_at lines k).evaluator_count ≡ (at (suc k)).evaluator_count)
+        → Follows K F E bytes calls lines (length calls) at
         → at (length calls) ≡ last
         → Settled K settlement seed old last
-    settled last step garbler evaluator ends =
-        let ran : Ran K settlement (length calls) = record { begun = begun; step = step; garbler_counts = garbler; evaluator_counts = evaluator } in
+    settled last follows ends =
+        let ran : Ran K settlement (length calls) = record { begun = begun; follows = follows } in
         let held = subst (λ (z : State L). Held (wires_in (parts_of bytes)) (wires_in (parts_of (open_copy bytes))) z) ends (held_at K settlement (length calls) ran (length calls) (omega arith)) in
         record {
           prepared = b;
@@ -117,7 +106,7 @@ module _ {L : Type 0} (K : Kind L) (F E : L → ℕ → L) (bytes seed : List �
         }
 
 -- a settlement that began and went on to its end
-pub ended : {L : Type 0} (K : Kind L) (F E : L → ℕ → L) (bytes seed : List ℕ) (calls : List Call) (lines : List (Line L)) (old first : State L) (last : Past → State L) (past : Past) (room : Room) (F' : L → ℕ → L)
+pub ended : {L : Type 0} (K : Kind L) (F E : L → ℕ → L) (bytes seed : List ℕ) (calls : List Call) (lines : List (Line L)) (old first : State L) (last : Past → State L) (past : Past) (room : Supply) (F' : L → ℕ → L)
     → F' ≡ F
     → own_refusal bytes room ≡ None
     → open_refusal old.garbler bytes K F (length old.zeros) seed ≡ None
@@ -131,5 +120,5 @@ ended K F E bytes seed calls lines old first last past room F' same own opens se
     record {
       past = past;
       at = f.at;
-      settled = settled K F E bytes seed calls lines old f.at b0 room own opens sent fresh fresh_bits fits (last past) f.step f.garbler_counts f.evaluator_counts f.ends;
+      settled = settled K F E bytes seed calls lines old f.at b0 room own opens sent fresh fresh_bits fits (last past) f.follows f.ends;
     }

@@ -16,7 +16,8 @@ use Rattle.laws.proofs.Order.{made_zero}
 use Rattle.laws.proofs.Bits.{plain_input}
 use Rattle.parties.specs.Marks.{is_marked, all_marked}
 use Rattle.settlement.specs.Lines.{call_at, line_at, is_accepted}
-use Rattle.settlement.specs.Runs.{Settlement, Step, Ran}
+use Rattle.settlement.specs.Made.{Step}
+use Rattle.settlement.specs.Runs.{Settlement, Ran}
 use Rattle.settlement.specs.Claims.{given, bit_of, garbler_sum, evaluator_sum, garbler_made, evaluator_made, label_of, Claims, LineClaims}
 use Rattle.settlement.specs.Alike.{Alike, SameLine}
 use Rattle.circuit.specs.declared.refusal.Refusal.TheVariants.{Foreign}
@@ -49,7 +50,7 @@ module _ {L : Type 0} (K : Kind L) (r : Settlement L) (n : ℕ) (ran : Ran K r n
   colours_offset = ap K.colour (sym ran.begun.offset_is) ∙ ran.begun.coloured
 
   step_at : (k : ℕ) → k < n → Step K F F r.circuit (r.at k) (call_at r.calls k) (line_at r.lines k).answer (r.at (suc k))
-  step_at k l = subst (λ (E : L → ℕ → L). Step K F E r.circuit (r.at k) (call_at r.calls k) (line_at r.lines k).answer (r.at (suc k))) same (ran.step k l)
+  step_at k l = subst (λ (E : L → ℕ → L). Step K F E r.circuit (r.at k) (call_at r.calls k) (line_at r.lines k).answer (r.at (suc k))) same (ran.follows.step k l)
 
   pub tied_at : (k : ℕ) → k ≤ n → Tied K F r.circuit seed (r.at k) (given r k)
   tied_at zero l = begun_tied K r ran.begun

@@ -5,6 +5,7 @@ use Rattle.std.proofs.lemmas.Bool.Decides.{nat_tests}
 use Rattle.std.proofs.lemmas.List.{get_or-take, get_or_append_left}
 use Rattle.labels.specs.Kind.{Kind, differs, times}
 use Rattle.labels.specs.Numbers.{digit}
+use Rattle.labels.specs.Words.{word_at}
 use Rattle.hashes.specs.Draws.{offset}
 use Rattle.circuit.specs.Parts.{Parts, parts_of}
 use Rattle.circuit.specs.Gates.{output_of}
@@ -18,7 +19,7 @@ use Rattle.tables.proofs.Packing.{length_listed, get_or_listed}
 use Rattle.memory.specs.Copy.{open_copy}
 use Rattle.memory.specs.Outputs.{decoded_at, decoded_of}
 use Rattle.garbler.specs.Garbling.{encoded}
-use Rattle.circuit.specs.Words.{word_at, all_below}
+use Rattle.circuit.specs.Words.{all_below}
 use Rattle.circuit.specs.declared.refusal.Refusal.TheVariants.{Memory, Bit}
 use Rattle.circuit.proofs.Checks.{or_else_none}
 use Rattle.parties.specs.States.{allowed, state_of}

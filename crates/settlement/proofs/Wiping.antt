@@ -18,7 +18,8 @@ use Rattle.settlement.specs.State.{State}
 use Rattle.settlement.specs.Stands.{stands, refusal}
 use Rattle.settlement.specs.Accepted.{Accepted}
 use Rattle.settlement.specs.Lines.{call_at, line_at}
-use Rattle.settlement.specs.Runs.{Settlement, Step, Ran}
+use Rattle.settlement.specs.Made.{Step}
+use Rattle.settlement.specs.Runs.{Settlement, Ran}
 use Rattle.settlement.specs.declared.call.Call.{Call}
 use Rattle.settlement.specs.declared.call.Call.TheVariants.{Garble, Encode, Deliver, Evaluate, Colours, Decode, Certify}
 use Rattle.settlement.specs.declared.line.Answer.{Answer}
@@ -33,64 +34,40 @@ pub record Held {L : Type 0} (w v : ℕ) (s : State L) : Type 0 where
   pub labels : v ≤ length s.labels
 
 module _ {L : Type 0} (K : Kind L) (F E : L → ℕ → L) (bytes : List ℕ) (w v : ℕ) (s : State L) (held : Held w v s) (a : Answer L) (t : State L) where
+  -- what a call leaves, if it ends no side and leaves wires and lengths as they were
+  by_leaves : (u : State L) → t ≡ u → u.garbler.ended ≡ s.garbler.ended → u.garbler.wires ≡ s.garbler.wires → u.evaluator.ended ≡ s.evaluator.ended → u.evaluator.wires ≡ s.evaluator.wires
+      → length t.zeros ≡ length s.zeros → length t.labels ≡ length s.labels → Held w v t
+  by_leaves u e g gw x xw z l = record {
+    garbler = ap (λ (y : State L). y.garbler.ended) e ∙ g ∙ held.garbler;
+    garbler_wires = ap (λ (y : State L). y.garbler.wires) e ∙ gw ∙ held.garbler_wires;
+    zeros = let h = held.zeros in omega arith;
+    evaluator = ap (λ (y : State L). y.evaluator.ended) e ∙ x ∙ held.evaluator;
+    evaluator_wires = ap (λ (y : State L). y.evaluator.wires) e ∙ xw ∙ held.evaluator_wires;
+    labels = let h = held.labels in omega arith;
+  }
+
+  zeros_as : (u : State L) → t ≡ u → length t.zeros ≡ length u.zeros
+  zeros_as u e = ap (λ (z : State L). length z.zeros) e
+
+  labels_as : (u : State L) → t ≡ u → length t.labels ≡ length u.labels
+  labels_as u e = ap (λ (z : State L). length z.labels) e
+
   accepted : (call : Call) → Accepted K bytes s a t F E call → Held w v t
-  accepted (Garble n m) acc = record {
-    garbler = ap (λ (z : State L). z.garbler.ended) acc.leaves ∙ held.garbler;
-    garbler_wires = ap (λ (z : State L). z.garbler.wires) acc.leaves ∙ held.garbler_wires;
-    zeros = let e = acc.wires.long in let h = held.zeros in omega arith;
-    evaluator = ap (λ (z : State L). z.evaluator.ended) acc.leaves ∙ held.evaluator;
-    evaluator_wires = ap (λ (z : State L). z.evaluator.wires) acc.leaves ∙ held.evaluator_wires;
-    labels = let e = ap (λ (z : State L). length z.labels) acc.leaves in let h = held.labels in omega arith;
-  }
-  accepted (Encode i b) acc = record {
-    garbler = ap (λ (z : State L). z.garbler.ended) acc.leaves ∙ held.garbler;
-    garbler_wires = ap (λ (z : State L). z.garbler.wires) acc.leaves ∙ held.garbler_wires;
-    zeros = let e = ap (λ (z : State L). length z.zeros) acc.leaves in let h = held.zeros in omega arith;
-    evaluator = ap (λ (z : State L). z.evaluator.ended) acc.leaves ∙ held.evaluator;
-    evaluator_wires = ap (λ (z : State L). z.evaluator.wires) acc.leaves ∙ held.evaluator_wires;
-    labels = let e = ap (λ (z : State L). length z.labels) acc.leaves in let h = held.labels in omega arith;
-  }
-  accepted (Deliver i) acc = record {
-    garbler = ap (λ (z : State L). z.garbler.ended) acc.leaves ∙ held.garbler;
-    garbler_wires = ap (λ (z : State L). z.garbler.wires) acc.leaves ∙ held.garbler_wires;
-    zeros = let e = ap (λ (z : State L). length z.zeros) acc.leaves in let h = held.zeros in omega arith;
-    evaluator = ap (λ (z : State L). z.evaluator.ended) acc.leaves ∙ held.evaluator;
-    evaluator_wires = ap (λ (z : State L). z.evaluator.wires) acc.leaves ∙ held.evaluator_wires;
-    labels = let e = ap (λ (z : State L). length z.labels) acc.leaves ∙ length-set s.labels i _ in let h = held.labels in omega arith;
-  }
-  accepted (Evaluate n) acc = record {
-    garbler = ap (λ (z : State L). z.garbler.ended) acc.leaves ∙ held.garbler;
-    garbler_wires = ap (λ (z : State L). z.garbler.wires) acc.leaves ∙ held.garbler_wires;
-    zeros = let e = ap (λ (z : State L). length z.zeros) acc.leaves in let h = held.zeros in omega arith;
-    evaluator = ap (λ (z : State L). z.evaluator.ended) acc.leaves ∙ held.evaluator;
-    evaluator_wires = ap (λ (z : State L). z.evaluator.wires) acc.leaves ∙ held.evaluator_wires;
-    labels = let e = acc.wires.long in let h = held.labels in omega arith;
-  }
-  accepted (Colours n) acc = record {
-    garbler = ap (λ (z : State L). z.garbler.ended) acc.leaves ∙ held.garbler;
-    garbler_wires = ap (λ (z : State L). z.garbler.wires) acc.leaves ∙ held.garbler_wires;
-    zeros = let e = ap (λ (z : State L). length z.zeros) acc.leaves in let h = held.zeros in omega arith;
-    evaluator = ap (λ (z : State L). z.evaluator.ended) acc.leaves ∙ held.evaluator;
-    evaluator_wires = ap (λ (z : State L). z.evaluator.wires) acc.leaves ∙ held.evaluator_wires;
-    labels = let e = ap (λ (z : State L). length z.labels) acc.leaves in let h = held.labels in omega arith;
-  }
-  accepted (Decode n) acc = record {
-    garbler = ap (λ (z : State L). z.garbler.ended) acc.leaves ∙ held.garbler;
-    garbler_wires = ap (λ (z : State L). z.garbler.wires) acc.leaves ∙ held.garbler_wires;
-    zeros = let e = ap (λ (z : State L). length z.zeros) acc.leaves in let h = held.zeros in omega arith;
-    evaluator = ap (λ (z : State L). z.evaluator.ended) acc.leaves ∙ held.evaluator;
-    evaluator_wires = ap (λ (z : State L). z.evaluator.wires) acc.leaves ∙ held.evaluator_wires;
-    labels = let e = ap (λ (z : State L). length z.labels) acc.leaves in let h = held.labels in omega arith;
-  }
-  accepted (Certify k) acc = subst (λ (z : State L). Held w v z) (sym acc.leaves) held
+  accepted (Garble n m) acc = by_leaves _ acc.leaves refl refl refl refl acc.wires.long (labels_as _ acc.leaves)
+  accepted (Encode i b) acc = by_leaves _ acc.leaves refl refl refl refl (zeros_as _ acc.leaves) (labels_as _ acc.leaves)
+  accepted (Deliver i) acc = by_leaves _ acc.leaves refl refl refl refl (zeros_as _ acc.leaves) (labels_as _ acc.leaves ∙ length-set s.labels i _)
+  accepted (Evaluate n) acc = by_leaves _ acc.leaves refl refl refl refl (zeros_as _ acc.leaves) acc.wires.long
+  accepted (Colours n) acc = by_leaves _ acc.leaves refl refl refl refl (zeros_as _ acc.leaves) (labels_as _ acc.leaves)
+  accepted (Decode n) acc = by_leaves _ acc.leaves refl refl refl refl (zeros_as _ acc.leaves) (labels_as _ acc.leaves)
+  accepted (Certify k) acc = by_leaves _ acc.leaves refl refl refl refl (zeros_as _ acc.leaves) (labels_as _ acc.leaves)
 
   module _ (call : Call) (step : Step K F E bytes s call a t) where
     denied : t ≡ s → Held w v t
     denied e = subst (λ (z : State L). Held w v z) (sym e) held
 
     answered : stands s call ≡ true → (o : Option Refusal) → refusal s K bytes call ≡ o → Held w v t
-    answered standing (Some why) e = denied (step.refused why standing e).1
-    answered standing None e = accepted call (step.accepted standing e)
+    answered standing (Some why) e = denied ((step.made standing).refused why e).1
+    answered standing None e = accepted call ((step.made standing).accepted e)
 
     stood : (b : Bool) → stands s call ≡ b → Held w v t
     stood true e = answered e (refusal s K bytes call) refl
@@ -118,7 +95,7 @@ module _ {L : Type 0} (K : Kind L) (r : Settlement L) (n : ℕ) (ran : Ran K r n
 
   pub held_at : (k : ℕ) → k ≤ n → Held w v (r.at k)
   held_at zero h = at_first
-  held_at (suc k) h = stepped_held K r.garbler_hash r.evaluator_hash r.circuit w v (r.at k) (held_at k (omega arith)) (line_at r.lines k).answer (r.at (suc k)) (call_at r.calls k) (ran.step k (omega arith))
+  held_at (suc k) h = stepped_held K r.garbler_hash r.evaluator_hash r.circuit w v (r.at k) (held_at k (omega arith)) (line_at r.lines k).answer (r.at (suc k)) (call_at r.calls k) (ran.follows.step k (omega arith))
 
 module _ {L : Type 0} (w v : ℕ) (s : State L) (held : Held w v s) where
   zeros_enough : ltb (length s.zeros) s.garbler.wires ≡ false

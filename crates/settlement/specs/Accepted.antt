@@ -7,7 +7,7 @@ use Rattle.circuit.specs.Parts.{parts_of}
 use Rattle.circuit.specs.Forms.{makes}
 use Rattle.circuit.specs.Gates.{form_of, output_of}
 use Rattle.circuit.specs.Material.{gate_bits, gate_bytes}
-use Rattle.gates.specs.Bytes.{laid, part}
+use Rattle.gates.specs.Bytes.{laid, bytes_at}
 use Rattle.steps.specs.Gate.{new_zeros, gate_material, new_labels, garble_calls, evaluate_calls}
 use Rattle.tables.specs.Table.{places}
 use Rattle.memory.specs.Copy.{open_copy}
@@ -15,7 +15,7 @@ use Rattle.memory.specs.Outputs.{colours_of, decoded_of}
 use Rattle.garbler.specs.Garbling.{encoded}
 use Rattle.parties.specs.Side.{marked, stepped}
 use Rattle.settlement.specs.State.{State, by_garble, by_encode, by_deliver, by_evaluate, by_colours, by_decode}
-use Rattle.settlement.specs.Stands.{colours_by, input_label, output_label}
+use Rattle.settlement.specs.Stands.{colours_by, sent_label, output_label}
 use Rattle.settlement.specs.declared.call.Call.{Call}
 use Rattle.settlement.specs.declared.call.Call.TheVariants.{Garble, Encode, Deliver, Evaluate, Colours, Decode, Certify}
 use Rattle.settlement.specs.declared.line.Answer.{Answer}
@@ -38,7 +38,7 @@ module _ {L : Type 0} (K : Kind L) (F : L → ℕ → L) (bytes : List ℕ) (s :
   pub record Evaluates (scratch : ℕ) : Type 0 where
     pub answer : a ≡ Evaluated (gate_bytes (8 * K.width) (form_of (parts_of (open_copy bytes)) s.evaluator.next))
     pub wires : Grown s.evaluator.made (makes (form_of (parts_of (open_copy bytes)) s.evaluator.next))
-        (places K (new_labels (parts_of (open_copy bytes)) s.evaluator.next K (places K s.labels) F (part s.evaluator.bytes (gate_bytes (8 * K.width) (form_of (parts_of (open_copy bytes)) s.evaluator.next)) (take s.garbler.bytes s.material)))) s.labels t.labels
+        (places K (new_labels (parts_of (open_copy bytes)) s.evaluator.next K (places K s.labels) F (bytes_at s.evaluator.bytes (gate_bytes (8 * K.width) (form_of (parts_of (open_copy bytes)) s.evaluator.next)) (take s.garbler.bytes s.material)))) s.labels t.labels
     pub leaves : t ≡ by_evaluate s
         (stepped s.evaluator (makes (form_of (parts_of (open_copy bytes)) s.evaluator.next)) (gate_bytes (8 * K.width) (form_of (parts_of (open_copy bytes)) s.evaluator.next)))
         t.labels
@@ -54,7 +54,7 @@ module _ {L : Type 0} (K : Kind L) (bytes : List ℕ) (s : State L) (a : Answer 
   -- deliver: the label that encode answered
   pub record Delivers (input : ℕ) : Type 0 where
     pub answer : a ≡ Delivered
-    pub leaves : t ≡ by_deliver s (marked s.evaluator input) (slice_set s.labels input (input_label s K input))
+    pub leaves : t ≡ by_deliver s (marked s.evaluator input) (slice_set s.labels input (sent_label s K input))
 
   -- colours: those of the outputs' zero labels
   pub record Shows (n : ℕ) : Type 0 where

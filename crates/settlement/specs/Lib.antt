@@ -3,8 +3,8 @@ pub mod Lines
 pub mod Stands
 pub mod Accepted
 pub mod Made
-pub mod Runs
 pub mod Followed
+pub mod Runs
 pub mod Alike
 pub mod Claims
 pub mod Refused

@@ -14,23 +14,23 @@ use Rattle.garbler.specs.Garbling.{denied_count}
 use Rattle.settlement.specs.State.{State}
 
 -- how much there is of the memories that are the settlement's own, and of the calls
-pub record Room : Type 0 where
+pub record Supply : Type 0 where
   pub calls : ℕ
   pub lines : ℕ
   pub sent : ℕ
   pub copy : ℕ
 
-abbrev pub room_of : ℕ → ℕ → ℕ → ℕ → Room
-room_of calls lines sent copy = record { calls = calls; lines = lines; sent = sent; copy = copy }
+abbrev pub supply_of : ℕ → ℕ → ℕ → ℕ → Supply
+supply_of calls lines sent copy = record { calls = calls; lines = lines; sent = sent; copy = copy }
 
 -- before either side begins: the settlement's own memory, and the open copy
-abbrev pub own_refusal : List ℕ → Room → Option Refusal
+abbrev pub own_refusal : List ℕ → Supply → Option Refusal
 own_refusal bytes room =
     or_else (first_of ((nat_lt room.lines room.calls || nat_lt room.sent 256, Memory) ∷ []))
     (copy_refusal bytes room.copy)
 
 -- the first refusal: that, then open, and join with the copy
-unfoldable pub settle_refusal : {L : Type 0} → Kind L → (L → ℕ → L) → List ℕ → List ℕ → Side → Side → ℕ → ℕ → Room → Option Refusal
+unfoldable pub settle_refusal : {L : Type 0} → Kind L → (L → ℕ → L) → List ℕ → List ℕ → Side → Side → ℕ → ℕ → Supply → Option Refusal
 settle_refusal K F bytes seed garbler evaluator zeros labels room =
     or_else (own_refusal bytes room)
     (or_else (open_refusal garbler bytes K F zeros seed)

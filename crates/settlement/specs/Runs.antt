@@ -1,22 +1,17 @@
--- A run of a settlement: what becomes of each call. Assumes nothing.
-use Rattle.std.specs.Prelude.{◌≡◌, ℕ, suc, ◌+◌, ◌^◌, ◌<◌, ◌≤◌, true, false, List, length, Some, None}
+-- A run of a settlement. Assumes nothing.
+use Rattle.std.specs.Prelude.{◌≡◌, ℕ, ◌+◌, ◌^◌, ◌<◌, ◌≤◌, true, false, List, length, None}
 use Rattle.labels.specs.Kind.{Kind}
 use Rattle.hashes.specs.Count.{counted}
 use Rattle.hashes.specs.Draws.{offset, input_zero}
 use Rattle.circuit.specs.Parts.{parts_of}
 use Rattle.circuit.specs.Gates.{wires_in}
 use Rattle.circuit.specs.Check.{circuit_refusal}
-use Rattle.circuit.specs.declared.refusal.Refusal.{Refusal}
 use Rattle.memory.specs.Copy.{open_copy}
 use Rattle.parties.specs.Side.{started}
 use Rattle.tables.specs.Table.{places}
 use Rattle.settlement.specs.State.{State}
-use Rattle.settlement.specs.Lines.{call_at, line_at}
-use Rattle.settlement.specs.Stands.{stands, refusal}
-use Rattle.settlement.specs.Accepted.{Accepted}
+use Rattle.settlement.specs.Followed.{Follows}
 use Rattle.settlement.specs.declared.call.Call.{Call}
-use Rattle.settlement.specs.declared.line.Answer.{Answer}
-use Rattle.settlement.specs.declared.line.Answer.TheVariants.{NotMade, Refused}
 use Rattle.settlement.specs.declared.line.Line.{Line}
 
 -- what a settlement is about, its calls and their lines, and what both sides hold before each call and after the last
@@ -31,11 +26,18 @@ pub record Settlement (L : Type 0) : Type 0 where
   pub lines : List (Line L)
   pub at : ℕ → State L
 
--- one call: not made, refused, or accepted
-pub record Step {L : Type 0} (K : Kind L) (F E : L → ℕ → L) (bytes : List ℕ) (s : State L) (call : Call) (a : Answer L) (t : State L) : Type 0 where
-  pub unmade : stands s call ≡ false → (a ≡ NotMade) × (t ≡ s)
-  pub refused : (why : Refusal) → stands s call ≡ true → refusal s K bytes call ≡ Some why → (a ≡ Refused why) × (t ≡ s)
-  pub accepted : stands s call ≡ true → refusal s K bytes call ≡ None → Accepted K bytes s a t F E call
+-- from what both sides hold before the first call
+abbrev pub settlement_from : {L : Type 0} → State L → (L → ℕ → L) → (L → ℕ → L) → List ℕ → List Call → List (Line L) → (ℕ → State L) → Settlement L
+settlement_from old F E bytes calls lines at = record {
+  circuit = bytes;
+  garbler_hash = F;
+  evaluator_hash = E;
+  garbler_came = old.garbler_count;
+  evaluator_came = old.evaluator_count;
+  calls = calls;
+  lines = lines;
+  at = at;
+}
 
 module _ {L : Type 0} (K : Kind L) (r : Settlement L) where
   -- after an accepted open and an accepted join with the open copy
@@ -55,9 +57,7 @@ module _ {L : Type 0} (K : Kind L) (r : Settlement L) where
     pub evaluator_count : (r.at 0).evaluator_count ≡ r.evaluator_came
     pub evaluator_fits : r.evaluator_came < 2 ^ 64
 
-  -- n calls made, a line for each: the answer and both counts after it
+  -- and then n calls
   pub record Ran (n : ℕ) : Type 0 where
     pub begun : Begun
-    pub step : (k : ℕ) → k < n → Step K r.garbler_hash r.evaluator_hash r.circuit (r.at k) (call_at r.calls k) (line_at r.lines k).answer (r.at (suc k))
-    pub garbler_counts : (k : ℕ) → k < n → (line_at r.lines k).garbler_count ≡ (r.at (suc k)).garbler_count
-    pub evaluator_counts : (k : ℕ) → k < n → (line_at r.lines k).evaluator_count ≡ (r.at (suc k)).evaluator_count
+    pub follows : Follows K r.garbler_hash r.evaluator_hash r.circuit r.calls r.lines n r.at

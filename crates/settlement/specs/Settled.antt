@@ -10,7 +10,7 @@ use Rattle.parties.specs.Refusing.{wipe_refusal}
 use Rattle.garbler.specs.Garbling.{Opened}
 use Rattle.evaluator.specs.Evaluating.{Joined}
 use Rattle.settlement.specs.State.{State}
-use Rattle.settlement.specs.Runs.{Settlement, Ran}
+use Rattle.settlement.specs.Runs.{Settlement, settlement_from, Ran}
 use Rattle.settlement.specs.Claims.{Claims, LineClaims}
 use Rattle.settlement.specs.declared.call.Call.{Call}
 use Rattle.settlement.specs.declared.line.Line.{Line}
@@ -46,13 +46,4 @@ module _ {L : Type 0} (K : Kind L) (r : Settlement L) (seed : List ℕ) where
 pub record Ended {L : Type 0} (K : Kind L) (F E : L → ℕ → L) (bytes seed : List ℕ) (calls : List Call) (lines : List (Line L)) (old : State L) (last : Past → State L) : Type 0 where
   pub past : Past
   pub at : ℕ → State L
-  pub settled : Settled K (record {
-    circuit = bytes;
-    garbler_hash = F;
-    evaluator_hash = E;
-    garbler_came = old.garbler_count;
-    evaluator_came = old.evaluator_count;
-    calls = calls;
-    lines = lines;
-    at = at;
-  }) seed old (last past)
+  pub settled : Settled K (settlement_from old F E bytes calls lines at) seed old (last past)

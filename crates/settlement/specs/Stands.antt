@@ -33,8 +33,8 @@ module _ {L : Type 0} (s : State L) where
   stands (Certify output) = s.decoded
 
   -- the label that encode answered for an input, or the zero label where the number is too large
-  abbrev pub input_label : Kind L → ℕ → L
-  input_label K input = cond (nat_lt input s.garbler.sizes.inputs) (places K s.sent input) K.zero
+  abbrev pub sent_label : Kind L → ℕ → L
+  sent_label K input = cond (nat_lt input s.garbler.sizes.inputs) (places K s.sent input) K.zero
 
   -- the evaluator's label of an output, or the zero label where the number is too large
   abbrev pub output_label : Kind L → List ℕ → ℕ → L

@@ -33,8 +33,8 @@ abbrev pub no_past : Past
 no_past = record { shown = None; decoded = false }
 
 -- as the code holds it
-abbrev pub state_of : {L : Type 0} → Garbler L → Evaluator → Lent L → Past → ℕ → ℕ → State L
-state_of garbler evaluator lent past garbler_count evaluator_count = record {
+abbrev pub held_by : {L : Type 0} → Garbler L → Evaluator → Lent L → Past → ℕ → ℕ → State L
+held_by garbler evaluator lent past garbler_count evaluator_count = record {
   garbler = garbler.progress.side;
   evaluator = evaluator.progress.side;
   seed = garbler.secrets.seed;

@@ -7,7 +7,7 @@ ghost use Rattle.evaluator.specs.declared.record.Evaluator.{Evaluator};
 ghost use Rattle.settlement.specs.declared.call.Call.{Call};
 ghost use Rattle.settlement.specs.declared.call.Call.TheVariants.{Encode, Deliver};
 ghost use Rattle.settlement.specs.declared.past.Past.{Past};
-ghost use Rattle.settlement.specs.State.{state_of};
+ghost use Rattle.settlement.specs.State.{held_by};
 ghost use Rattle.settlement.specs.Made.{Made, SameLoans};
 
 use crate::lent::Lent;
@@ -25,7 +25,7 @@ pub fn encode<L: Label>(
     bit: u8,
 ) -> Answer<L>
     requires { 256 ≤ length lent.old.sent.now }
-    ensures made { (F E : L → ℕ → L) (evaluator : Evaluator) (past : Past) (m n : ℕ) → Made L.kind F E circuit.now (Encode input bit) (state_of garbler.old evaluator lent.old past m n) result (state_of garbler.new evaluator lent.new past m n) }
+    ensures made { (F E : L → ℕ → L) (evaluator : Evaluator) (past : Past) (m n : ℕ) → Made L.kind F E circuit.now (Encode input bit) (held_by garbler.old evaluator lent.old past m n) result (held_by garbler.new evaluator lent.new past m n) }
     ensures loans { SameLoans lent.old lent.new }
 {
     match garbler.encode(circuit, &mut *lent.zeros, input, bit) {
@@ -48,7 +48,7 @@ pub fn label_or_zero<L: Label>(labels: &[L], place: usize) -> L
 }
 
 // The label that encode answered for an input, or the zero label where the number is too large.
-fn input_label<L: Label>(garbler: &Garbler<L>, sent: &[L], input: usize) -> L
+fn sent_label<L: Label>(garbler: &Garbler<L>, sent: &[L], input: usize) -> L
     ensures { result ≡ cond (nat_lt input garbler.now.progress.side.sizes.inputs) (places L.kind sent.now input) L.kind.zero }
 {
     if input < usize::from(garbler.inputs()) {
@@ -66,10 +66,10 @@ pub fn deliver<L: Label>(
     lent: &mut Lent<L>,
     input: usize,
 ) -> Answer<L>
-    ensures made { (F E : L → ℕ → L) (circuit : List ℕ) (past : Past) (m n : ℕ) → copy.now ≡ open_copy circuit → Made L.kind F E circuit (Deliver input) (state_of garbler.now evaluator.old lent.old past m n) result (state_of garbler.now evaluator.new lent.new past m n) }
+    ensures made { (F E : L → ℕ → L) (circuit : List ℕ) (past : Past) (m n : ℕ) → copy.now ≡ open_copy circuit → Made L.kind F E circuit (Deliver input) (held_by garbler.now evaluator.old lent.old past m n) result (held_by garbler.now evaluator.new lent.new past m n) }
     ensures loans { SameLoans lent.old lent.new }
 {
-    let label = input_label(garbler, &mut *lent.sent, input);
+    let label = sent_label(garbler, &mut *lent.sent, input);
     match evaluator.deliver(copy, lent.labels, input, label) {
         Ok(()) => Answer::Delivered,
         Err(why) => Answer::Refused(why),

@@ -6,7 +6,7 @@ ghost use Rattle.evaluator.specs.declared.record.Evaluator.{Evaluator};
 ghost use Rattle.settlement.specs.declared.call.Call.{Call};
 ghost use Rattle.settlement.specs.declared.call.Call.TheVariants.{Garble, Evaluate};
 ghost use Rattle.settlement.specs.declared.past.Past.{Past};
-ghost use Rattle.settlement.specs.State.{state_of};
+ghost use Rattle.settlement.specs.State.{held_by};
 ghost use Rattle.settlement.specs.Made.{Made, SameLoans};
 
 use crate::lent::Lent;
@@ -25,7 +25,7 @@ pub fn garble<L: Label, G: LabelHash<L>>(
     scratch: usize,
     material: usize,
 ) -> Answer<L>
-    ensures made { (E : L → ℕ → L) (evaluator : Evaluator) (past : Past) (count : ℕ) → Made L.kind (G.means h.old) E circuit.now (Garble scratch material) (state_of garbler.old evaluator lent.old past (G.calls h.old) count) result (state_of garbler.new evaluator lent.new past (G.calls h.new) count) }
+    ensures made { (E : L → ℕ → L) (evaluator : Evaluator) (past : Past) (count : ℕ) → Made L.kind (G.means h.old) E circuit.now (Garble scratch material) (held_by garbler.old evaluator lent.old past (G.calls h.old) count) result (held_by garbler.new evaluator lent.new past (G.calls h.new) count) }
     ensures loans { SameLoans lent.old lent.new }
     ensures kept { G.means h.new ≡ G.means h.old }
 {
@@ -57,7 +57,7 @@ pub fn evaluate<L: Label, H: LabelHash<L>>(
     scratch: usize,
     written: usize,
 ) -> Answer<L>
-    ensures made { (F : L → ℕ → L) (garbler : Garbler L) (circuit : List ℕ) (past : Past) (count : ℕ) → copy.now ≡ open_copy circuit → written ≡ garbler.progress.side.bytes → Made L.kind F (H.means h.old) circuit (Evaluate scratch) (state_of garbler evaluator.old lent.old past count (H.calls h.old)) result (state_of garbler evaluator.new lent.new past count (H.calls h.new)) }
+    ensures made { (F : L → ℕ → L) (garbler : Garbler L) (circuit : List ℕ) (past : Past) (count : ℕ) → copy.now ≡ open_copy circuit → written ≡ garbler.progress.side.bytes → Made L.kind F (H.means h.old) circuit (Evaluate scratch) (held_by garbler evaluator.old lent.old past count (H.calls h.old)) result (held_by garbler evaluator.new lent.new past count (H.calls h.new)) }
     ensures loans { SameLoans lent.old lent.new }
     ensures kept { H.means h.new ≡ H.means h.old }
 {

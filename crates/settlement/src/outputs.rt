@@ -10,7 +10,7 @@ ghost use Rattle.evaluator.specs.declared.record.Evaluator.{Evaluator};
 ghost use Rattle.settlement.specs.declared.call.Call.{Call};
 ghost use Rattle.settlement.specs.declared.call.Call.TheVariants.{Colours, Decode, Certify};
 ghost use Rattle.settlement.specs.declared.past.Past.{Past};
-ghost use Rattle.settlement.specs.State.{state_of};
+ghost use Rattle.settlement.specs.State.{held_by};
 ghost use Rattle.settlement.specs.Made.{Made, SameLoans};
 
 use crate::inputs::label_or_zero;
@@ -31,7 +31,7 @@ pub fn colours<L: Label>(
     past: &mut Past,
     length: usize,
 ) -> Answer<L>
-    ensures made { (F E : L → ℕ → L) (evaluator : Evaluator) (m n : ℕ) → Made L.kind F E circuit.now (Colours length) (state_of garbler.now evaluator lent.old past.old m n) result (state_of garbler.now evaluator lent.new past.new m n) }
+    ensures made { (F E : L → ℕ → L) (evaluator : Evaluator) (m n : ℕ) → Made L.kind F E circuit.now (Colours length) (held_by garbler.now evaluator lent.old past.old m n) result (held_by garbler.now evaluator lent.new past.new m n) }
     ensures loans { SameLoans lent.old lent.new }
 {
     let room = length.min(lent.colours.len());
@@ -52,7 +52,7 @@ pub fn decode<L: Label>(
     past: &mut Past,
     length: usize,
 ) -> Answer<L>
-    ensures made { (F E : L → ℕ → L) (garbler : Garbler L) (circuit : List ℕ) (m n : ℕ) → copy.now ≡ open_copy circuit → Made L.kind F E circuit (Decode length) (state_of garbler evaluator.now lent.old past.old m n) result (state_of garbler evaluator.now lent.new past.new m n) }
+    ensures made { (F E : L → ℕ → L) (garbler : Garbler L) (circuit : List ℕ) (m n : ℕ) → copy.now ≡ open_copy circuit → Made L.kind F E circuit (Decode length) (held_by garbler evaluator.now lent.old past.old m n) result (held_by garbler evaluator.now lent.new past.new m n) }
     ensures loans { SameLoans lent.old lent.new }
 {
     let seen = past.shown.unwrap_or(0).min(lent.colours.len());
@@ -94,7 +94,7 @@ pub fn certify<L: Label>(
     output: usize,
 ) -> Answer<L>
     requires { circuit_refusal copy.now ≡ None }
-    ensures made { (F E : L → ℕ → L) (evaluator : Evaluator) (past : Past) (m n : ℕ) → copy.now ≡ open_copy circuit.now → Made L.kind F E circuit.now (Certify output) (state_of garbler.now evaluator lent.now past m n) result (state_of garbler.now evaluator lent.now past m n) }
+    ensures made { (F E : L → ℕ → L) (evaluator : Evaluator) (past : Past) (m n : ℕ) → copy.now ≡ open_copy circuit.now → Made L.kind F E circuit.now (Certify output) (held_by garbler.now evaluator lent.now past m n) result (held_by garbler.now evaluator lent.now past m n) }
 {
     let label = output_label(copy, lent.labels, output);
     match garbler.certify(circuit, lent.zeros, output, label) {

@@ -2,7 +2,7 @@
 ghost use Rattle.std.specs.Prelude.{◌≡◌, ◌≤◌, ◌<◌, length, drop, slice_set, None};
 ghost use Rattle.circuit.specs.Check.{circuit_refusal};
 ghost use Rattle.memory.specs.Copy.{open_copy};
-ghost use Rattle.settlement.specs.State.{no_past, state_of};
+ghost use Rattle.settlement.specs.State.{no_past, held_by};
 ghost use Rattle.settlement.specs.Made.{SameLoans};
 ghost use Rattle.settlement.specs.Followed.{Followed};
 
@@ -40,7 +40,7 @@ pub fn run<L: Label, G: LabelHash<L>, H: LabelHash<L>>(
     requires passes { circuit_refusal (open_copy circuit.now) ≡ None }
     requires copied { copy.now ≡ open_copy circuit.now }
     requires lines { length calls.now ≤ length lines.old }
-    ensures followed { Followed L.kind (G.means garbler_hash.old) (H.means evaluator_hash.old) circuit.now calls.now lines.new (length calls.now) (state_of garbler.old evaluator.old lent.old no_past (G.calls garbler_hash.old) (H.calls evaluator_hash.old)) (state_of garbler.new evaluator.new lent.new result (G.calls garbler_hash.new) (H.calls evaluator_hash.new)) }
+    ensures followed { Followed L.kind (G.means garbler_hash.old) (H.means evaluator_hash.old) circuit.now calls.now lines.new (length calls.now) (held_by garbler.old evaluator.old lent.old no_past (G.calls garbler_hash.old) (H.calls evaluator_hash.old)) (held_by garbler.new evaluator.new lent.new result (G.calls garbler_hash.new) (H.calls evaluator_hash.new)) }
     ensures past { drop (length calls.now) lines.new ≡ drop (length calls.now) lines.old }
     ensures garbler_kept { G.means garbler_hash.new ≡ G.means garbler_hash.old }
     ensures evaluator_kept { H.means evaluator_hash.new ≡ H.means evaluator_hash.old }

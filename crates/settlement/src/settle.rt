@@ -7,10 +7,9 @@ ghost use Rattle.circuit.specs.declared.refusal.Refusal.{Refusal};
 ghost use Rattle.memory.specs.Copy.{open_copy};
 ghost use Rattle.parties.specs.Refusing.{open_refusal, join_refusal};
 ghost use Rattle.settlement.specs.declared.past.Past.{Past};
-ghost use Rattle.settlement.specs.State.{no_past, state_of};
+ghost use Rattle.settlement.specs.State.{no_past, held_by};
 ghost use Rattle.settlement.specs.Made.{SameLoans};
-ghost use Rattle.settlement.specs.Refused.{settle_refusal};
-ghost use Rattle.settlement.specs.Refused.{room_of, own_refusal, Denied};
+ghost use Rattle.settlement.specs.Refused.{supply_of, own_refusal, settle_refusal, Denied};
 ghost use Rattle.settlement.specs.Settled.{Begins, Ended};
 
 use crate::call::Call;
@@ -32,12 +31,12 @@ fn may_begin(
     lines: usize,
     sent: usize,
 ) -> Result<(), Refusal>
-    ensures accepted { OnOk result (own_refusal circuit.now (room_of calls lines sent (length copy.old)) ≡ None) }
+    ensures accepted { OnOk result (own_refusal circuit.now (supply_of calls lines sent (length copy.old)) ≡ None) }
     ensures copied { OnOk result (copy.new ≡ open_copy circuit.now ++ drop (length circuit.now) copy.old) }
     ensures lines { OnOk result (calls ≤ lines) }
     ensures sent { OnOk result (256 ≤ sent) }
     ensures room { OnOk result (length circuit.now ≤ length copy.old) }
-    ensures refused { IfErr result (λ why. own_refusal circuit.now (room_of calls lines sent (length copy.old)) ≡ Some why) }
+    ensures refused { IfErr result (λ why. own_refusal circuit.now (supply_of calls lines sent (length copy.old)) ≡ Some why) }
     ensures same { OnErr result (copy.new ≡ copy.old) }
 {
     if lines < calls || sent < 256 {
@@ -61,9 +60,9 @@ fn begin<L: Label, G: LabelHash<L>>(
     ensures kept { G.means h.new ≡ G.means h.old }
     ensures loans { SameLoans lent.old lent.new }
     ensures accepted { OnOk result (or_else (open_refusal garbler.old.progress.side circuit.now L.kind (G.means h.old) (length lent.old.zeros.now) seed.old) (join_refusal evaluator.old.progress.side (open_copy circuit.now) (length lent.old.labels.now)) ≡ None) }
-    ensures begun { OnOk result ((past : Past) (n : ℕ) → Begins L.kind (G.means h.old) circuit.now seed.old (state_of garbler.old evaluator.old lent.old past (G.calls h.old) n) (state_of garbler.new evaluator.new lent.new past (G.calls h.new) n)) }
+    ensures begun { OnOk result ((past : Past) (n : ℕ) → Begins L.kind (G.means h.old) circuit.now seed.old (held_by garbler.old evaluator.old lent.old past (G.calls h.old) n) (held_by garbler.new evaluator.new lent.new past (G.calls h.new) n)) }
     ensures refused { IfErr result (λ why. or_else (open_refusal garbler.old.progress.side circuit.now L.kind (G.means h.old) (length lent.old.zeros.now) seed.old) (join_refusal evaluator.old.progress.side (open_copy circuit.now) (length lent.old.labels.now)) ≡ Some why) }
-    ensures denied { IfErr result (λ why. (past : Past) (n : ℕ) → Denied L.kind (G.means h.old) circuit.now seed.old None why (state_of garbler.old evaluator.old lent.old past (G.calls h.old) n) (state_of garbler.new evaluator.new lent.new past (G.calls h.new) n)) }
+    ensures denied { IfErr result (λ why. (past : Past) (n : ℕ) → Denied L.kind (G.means h.old) circuit.now seed.old None why (held_by garbler.old evaluator.old lent.old past (G.calls h.old) n) (held_by garbler.new evaluator.new lent.new past (G.calls h.new) n)) }
 {
     let token = garbler.open(h, circuit, seed, lent.zeros)?;
     match evaluator.join(copy, lent.labels) {
@@ -98,13 +97,13 @@ pub fn settle<L: Label, G: LabelHash<L>, H: LabelHash<L>>(
     ensures material_lent { lent.new.material.ghost_name ≡ lent.old.material.ghost_name }
     ensures colours_lent { lent.new.colours.ghost_name ≡ lent.old.colours.ghost_name }
     ensures outputs_lent { lent.new.outputs.ghost_name ≡ lent.old.outputs.ghost_name }
-    ensures accepted { OnOk result (settle_refusal L.kind (G.means garbler_hash.old) circuit.now seed.old garbler.old.progress.side evaluator.old.progress.side (length lent.old.zeros.now) (length lent.old.labels.now) (room_of (length calls.now) (length lines.old) (length lent.old.sent.now) (length copy.old)) ≡ None) }
-    ensures copied { own_refusal circuit.now (room_of (length calls.now) (length lines.old) (length lent.old.sent.now) (length copy.old)) ≡ None → copy.new ≡ open_copy circuit.now ++ drop (length circuit.now) copy.old }
-    ensures uncopied { (why : Refusal) → own_refusal circuit.now (room_of (length calls.now) (length lines.old) (length lent.old.sent.now) (length copy.old)) ≡ Some why → copy.new ≡ copy.old }
-    ensures settled { OnOk result (Ended L.kind (G.means garbler_hash.old) (H.means evaluator_hash.old) circuit.now seed.old calls.now lines.new (state_of garbler.old evaluator.old lent.old no_past (G.calls garbler_hash.old) (H.calls evaluator_hash.old)) (λ past. state_of garbler.new evaluator.new lent.new past (G.calls garbler_hash.new) (H.calls evaluator_hash.new))) }
+    ensures accepted { OnOk result (settle_refusal L.kind (G.means garbler_hash.old) circuit.now seed.old garbler.old.progress.side evaluator.old.progress.side (length lent.old.zeros.now) (length lent.old.labels.now) (supply_of (length calls.now) (length lines.old) (length lent.old.sent.now) (length copy.old)) ≡ None) }
+    ensures copied { own_refusal circuit.now (supply_of (length calls.now) (length lines.old) (length lent.old.sent.now) (length copy.old)) ≡ None → copy.new ≡ open_copy circuit.now ++ drop (length circuit.now) copy.old }
+    ensures uncopied { (why : Refusal) → own_refusal circuit.now (supply_of (length calls.now) (length lines.old) (length lent.old.sent.now) (length copy.old)) ≡ Some why → copy.new ≡ copy.old }
+    ensures settled { OnOk result (Ended L.kind (G.means garbler_hash.old) (H.means evaluator_hash.old) circuit.now seed.old calls.now lines.new (held_by garbler.old evaluator.old lent.old no_past (G.calls garbler_hash.old) (H.calls evaluator_hash.old)) (λ past. held_by garbler.new evaluator.new lent.new past (G.calls garbler_hash.new) (H.calls evaluator_hash.new))) }
     ensures past { OnOk result (drop (length calls.now) lines.new ≡ drop (length calls.now) lines.old) }
-    ensures refused { IfErr result (λ why. settle_refusal L.kind (G.means garbler_hash.old) circuit.now seed.old garbler.old.progress.side evaluator.old.progress.side (length lent.old.zeros.now) (length lent.old.labels.now) (room_of (length calls.now) (length lines.old) (length lent.old.sent.now) (length copy.old)) ≡ Some why) }
-    ensures denied { IfErr result (λ why. Denied L.kind (G.means garbler_hash.old) circuit.now seed.old (own_refusal circuit.now (room_of (length calls.now) (length lines.old) (length lent.old.sent.now) (length copy.old))) why (state_of garbler.old evaluator.old lent.old no_past (G.calls garbler_hash.old) (H.calls evaluator_hash.old)) (state_of garbler.new evaluator.new lent.new no_past (G.calls garbler_hash.new) (H.calls evaluator_hash.new))) }
+    ensures refused { IfErr result (λ why. settle_refusal L.kind (G.means garbler_hash.old) circuit.now seed.old garbler.old.progress.side evaluator.old.progress.side (length lent.old.zeros.now) (length lent.old.labels.now) (supply_of (length calls.now) (length lines.old) (length lent.old.sent.now) (length copy.old)) ≡ Some why) }
+    ensures denied { IfErr result (λ why. Denied L.kind (G.means garbler_hash.old) circuit.now seed.old (own_refusal circuit.now (supply_of (length calls.now) (length lines.old) (length lent.old.sent.now) (length copy.old))) why (held_by garbler.old evaluator.old lent.old no_past (G.calls garbler_hash.old) (H.calls evaluator_hash.old)) (held_by garbler.new evaluator.new lent.new no_past (G.calls garbler_hash.new) (H.calls evaluator_hash.new))) }
     ensures lines { OnErr result (lines.new ≡ lines.old) }
 {
     let room = lent.sent.len();

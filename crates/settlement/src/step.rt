@@ -4,10 +4,9 @@ ghost use Rattle.circuit.specs.Check.{circuit_refusal};
 ghost use Rattle.memory.specs.Copy.{open_copy};
 ghost use Rattle.evaluator.specs.declared.record.Evaluator.{Evaluator};
 ghost use Rattle.settlement.specs.declared.lent.Lent.{Lent};
-ghost use Rattle.settlement.specs.State.{state_of};
+ghost use Rattle.settlement.specs.State.{held_by};
 ghost use Rattle.settlement.specs.Stands.{stands};
-ghost use Rattle.settlement.specs.Made.{Made, SameLoans};
-ghost use Rattle.settlement.specs.Runs.{Step};
+ghost use Rattle.settlement.specs.Made.{Made, SameLoans, Step};
 
 use crate::call::Call;
 use crate::inputs::{deliver, encode};
@@ -23,7 +22,7 @@ use labels::kind::Label;
 
 // Whether a call stands.
 fn stands<L: Label>(garbler: &Garbler<L>, past: Past, call: Call) -> bool
-    ensures { (evaluator : Evaluator) (lent : Lent L) (m n : ℕ) → result ≡ stands (state_of garbler.now evaluator lent past m n) call }
+    ensures { (evaluator : Evaluator) (lent : Lent L) (m n : ℕ) → result ≡ stands (held_by garbler.now evaluator lent past m n) call }
 {
     match call {
         Call::Deliver { input } => {
@@ -50,7 +49,7 @@ fn make<L: Label, G: LabelHash<L>, H: LabelHash<L>>(
     requires sent { 256 ≤ length lent.old.sent.now }
     requires passes { circuit_refusal (open_copy circuit.now) ≡ None }
     requires copied { copy.now ≡ open_copy circuit.now }
-    ensures made { Made L.kind (G.means garbler_hash.old) (H.means evaluator_hash.old) circuit.now call (state_of garbler.old evaluator.old lent.old past.old (G.calls garbler_hash.old) (H.calls evaluator_hash.old)) result (state_of garbler.new evaluator.new lent.new past.new (G.calls garbler_hash.new) (H.calls evaluator_hash.new)) }
+    ensures made { Made L.kind (G.means garbler_hash.old) (H.means evaluator_hash.old) circuit.now call (held_by garbler.old evaluator.old lent.old past.old (G.calls garbler_hash.old) (H.calls evaluator_hash.old)) result (held_by garbler.new evaluator.new lent.new past.new (G.calls garbler_hash.new) (H.calls evaluator_hash.new)) }
     ensures garbler_kept { G.means garbler_hash.new ≡ G.means garbler_hash.old }
     ensures evaluator_kept { H.means evaluator_hash.new ≡ H.means evaluator_hash.old }
     ensures loans { SameLoans lent.old lent.new }
@@ -86,7 +85,7 @@ pub fn step<L: Label, G: LabelHash<L>, H: LabelHash<L>>(
     requires sent { 256 ≤ length lent.old.sent.now }
     requires passes { circuit_refusal (open_copy circuit.now) ≡ None }
     requires copied { copy.now ≡ open_copy circuit.now }
-    ensures step { Step L.kind (G.means garbler_hash.old) (H.means evaluator_hash.old) circuit.now (state_of garbler.old evaluator.old lent.old past.old (G.calls garbler_hash.old) (H.calls evaluator_hash.old)) call result (state_of garbler.new evaluator.new lent.new past.new (G.calls garbler_hash.new) (H.calls evaluator_hash.new)) }
+    ensures step { Step L.kind (G.means garbler_hash.old) (H.means evaluator_hash.old) circuit.now (held_by garbler.old evaluator.old lent.old past.old (G.calls garbler_hash.old) (H.calls evaluator_hash.old)) call result (held_by garbler.new evaluator.new lent.new past.new (G.calls garbler_hash.new) (H.calls evaluator_hash.new)) }
     ensures garbler_kept { G.means garbler_hash.new ≡ G.means garbler_hash.old }
     ensures evaluator_kept { H.means evaluator_hash.new ≡ H.means evaluator_hash.old }
     ensures loans { SameLoans lent.old lent.new }

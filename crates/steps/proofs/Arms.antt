@@ -3,8 +3,9 @@ use Rattle.std.proofs.Common.{◌≡◌, ℕ, suc, ◌+◌, ◌*◌, ◌/◌, �
 use Rattle.std.proofs.lemmas.Bool.{eq-eqb, ne_eqb, le-leb}
 use Rattle.std.proofs.lemmas.Bool.Decides.{nat_tests}
 use Rattle.labels.specs.Kind.{Kind}
+use Rattle.labels.specs.Words.{word_at}
 use Rattle.wires.specs.Wires.{Grown}
-use Rattle.circuit.specs.Words.{word_at, all_below, part}
+use Rattle.circuit.specs.Words.{all_below, part}
 use Rattle.circuit.specs.Parts.{Parts}
 use Rattle.circuit.specs.Forms.{is_table, fan_in, fan_out, reads}
 use Rattle.circuit.specs.Gates.{form_of, operand_of, rows_from, made_before}
@@ -16,7 +17,7 @@ use Rattle.circuit.specs.declared.gate.Gate.TheVariants.{Xor, And, Table}
 use Rattle.circuit.proofs.Checks.{each_passes, gate_in_order}
 use Rattle.circuit.proofs.GateParts.{table_high, gate_operand, gate_order, made_after, made_within}
 use Rattle.gates.specs.Half.{garbled, joined}
-use Rattle.gates.specs.Bytes.{part as bytes_at}
+use Rattle.gates.specs.Bytes.{bytes_at}
 use Rattle.material.specs.Size.{bytes_of}
 use Rattle.material.proofs.Sizes.{whole_bytes}
 use Rattle.tables.specs.Gate.{material_for, zeros_for, evaluated, garbler_calls, evaluator_calls}

@@ -1,11 +1,12 @@
 -- One gate of a circuit on labels: what the garbler and the evaluator make of what the wires carry. Assumes nothing.
 use Rattle.std.specs.Prelude.{ℕ, ◌/◌, ◌^◌, cond, List, [], ◌∷◌, ◌++◌, length, ◌==◌}
 use Rattle.labels.specs.Kind.{Kind}
-use Rattle.circuit.specs.Words.{part, word_at}
+use Rattle.labels.specs.Words.{word_at}
+use Rattle.circuit.specs.Words.{part}
 use Rattle.circuit.specs.Parts.{Parts}
 use Rattle.circuit.specs.Forms.{fan_in, fan_out, reads}
 use Rattle.circuit.specs.Gates.{form_of, operand_of, rows_from}
-use Rattle.gates.specs.Bytes.{part as bytes_at}
+use Rattle.gates.specs.Bytes.{bytes_at}
 use Rattle.gates.specs.Half.{garbled, joined}
 use Rattle.tables.specs.Gate.{material_for, zeros_for, evaluated, garbler_calls, evaluator_calls}
 use Rattle.tables.specs.Material.{listed}

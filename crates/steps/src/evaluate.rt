@@ -1,13 +1,14 @@
 // The evaluator's step at one gate of a circuit.
 ghost use Rattle.std.specs.Prelude.{◌≡◌, suc, ◌+◌, ◌*◌, ◌/◌, ◌<◌, ◌≤◌, true, length, replicate};
+ghost use Rattle.labels.specs.Words.{word_at};
 ghost use Rattle.hashes.specs.Count.{counted};
 ghost use Rattle.wires.specs.Wires.{Grown};
-ghost use Rattle.circuit.specs.Words.{word_at, all_below};
+ghost use Rattle.circuit.specs.Words.{all_below};
 ghost use Rattle.circuit.specs.Forms.{makes};
 ghost use Rattle.circuit.specs.Gates.{form_of, made_before};
 ghost use Rattle.circuit.specs.Material.{gate_bytes};
 ghost use Rattle.circuit.specs.Lent.{parts_in};
-ghost use Rattle.gates.specs.Bytes.{part};
+ghost use Rattle.gates.specs.Bytes.{bytes_at};
 ghost use Rattle.gates.specs.Half.{joined};
 ghost use Rattle.material.specs.Size.{bytes_of};
 ghost use Rattle.tables.specs.Gate.{evaluated, evaluator_calls};
@@ -39,7 +40,7 @@ fn evaluate_and<L: Label, H: LabelHash<L>>(
     requires room { wires.old.made < length wires.old.values.now }
     requires part { length material.now ≡ 2 * L.kind.width }
     ensures made { wires.new.made ≡ wires.old.made + 1 }
-    ensures grown { Grown wires.old.made 1 (λ _. joined L.kind (H.means h.old) gate (L.kind.from (part 0 L.kind.width material.now)) (L.kind.from (part L.kind.width L.kind.width material.now)) (label_on L.kind wires.old.values.now operands.now 0) (label_on L.kind wires.old.values.now operands.now 1)) wires.old.values.now wires.new.values.now }
+    ensures grown { Grown wires.old.made 1 (λ _. joined L.kind (H.means h.old) gate (L.kind.from (bytes_at 0 L.kind.width material.now)) (L.kind.from (bytes_at L.kind.width L.kind.width material.now)) (label_on L.kind wires.old.values.now operands.now 0) (label_on L.kind wires.old.values.now operands.now 1)) wires.old.values.now wires.new.values.now }
     ensures same { wires.new.values.ghost_name ≡ wires.old.values.ghost_name }
     ensures kept { H.means h.new ≡ H.means h.old }
     ensures count { H.calls h.new ≡ counted (H.calls h.old) 2 }

@@ -1,8 +1,9 @@
 // The garbler's step at one gate of a circuit.
 ghost use Rattle.std.specs.Prelude.{◌≡◌, suc, ◌+◌, ◌*◌, ◌/◌, ◌^◌, ◌<◌, ◌≤◌, true, ◌++◌, length, replicate};
+ghost use Rattle.labels.specs.Words.{word_at};
 ghost use Rattle.hashes.specs.Count.{counted};
 ghost use Rattle.wires.specs.Wires.{Grown};
-ghost use Rattle.circuit.specs.Words.{word_at, all_below};
+ghost use Rattle.circuit.specs.Words.{all_below};
 ghost use Rattle.circuit.specs.Forms.{makes};
 ghost use Rattle.circuit.specs.Gates.{form_of, made_before};
 ghost use Rattle.circuit.specs.Material.{gate_bytes};

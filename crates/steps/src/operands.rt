@@ -1,6 +1,7 @@
 // The labels on the wires that a gate reads.
 ghost use Rattle.std.specs.Prelude.{◌≡◌, ◌+◌, ◌*◌, ◌/◌, ◌^◌, ◌<◌, ◌≤◌, true, length};
-ghost use Rattle.circuit.specs.Words.{word_at, all_below};
+ghost use Rattle.labels.specs.Words.{word_at};
+ghost use Rattle.circuit.specs.Words.{all_below};
 ghost use Rattle.steps.specs.Gate.{label_on, labels_on};
 ghost use Rattle.steps.specs.Memory.{memory_of};
 

@@ -1,7 +1,8 @@
 // The XOR gate on wires, the same for both sides.
 ghost use Rattle.std.specs.Prelude.{◌≡◌, ◌+◌, ◌<◌, true, length};
+ghost use Rattle.labels.specs.Words.{word_at};
 ghost use Rattle.wires.specs.Wires.{Grown};
-ghost use Rattle.circuit.specs.Words.{word_at, all_below};
+ghost use Rattle.circuit.specs.Words.{all_below};
 ghost use Rattle.steps.specs.Gate.{label_on};
 
 use crate::operands::operand;

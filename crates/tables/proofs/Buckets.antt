@@ -8,7 +8,8 @@ use Rattle.labels.specs.Kind.{Kind, times}
 use Rattle.labels.proofs.Group.{group}
 use Rattle.tables.specs.Table.{places, sum, chosen}
 use Rattle.tables.specs.Level.{bucket, Sorted}
-use Rattle.tables.proofs.Numbering.{mod_longer, two_pow}
+use Rattle.tables.proofs.Numbering.{mod_longer}
+use Rattle.labels.proofs.Numbers.{two_pow}
 use Rattle.tables.proofs.Sums.{sum_ext, sum_more, sum_all, sum_off}
 
 -- one bit further on

@@ -3,7 +3,11 @@ use Rattle.std.proofs.Common.{◌≡◌, ℕ, ◌+◌, ◌<◌, ◌≤◌, List,
 use Rattle.std.proofs.lemmas.Bool.{cases_eq}
 use Rattle.labels.specs.Kind.{Kind}
 use Rattle.tables.specs.Table.{places}
-use Rattle.tables.specs.Level.{Holds, Past}
+use Rattle.tables.specs.Level.{Holds}
+
+-- v is V from the place n on
+abbrev pub TailKept : {L : Type 0} → Kind L → ℕ → List L → List L → Type 0
+TailKept K n V v = (i : ℕ) → n ≤ i → places K v i ≡ places K V i
 
 module _ {L : Type 0} (K : Kind L) where
   pub holds_none : (n : ℕ) (f : ℕ → L) (v : List L) → n ≡ 0 → Holds K n f v
@@ -16,7 +20,7 @@ module _ {L : Type 0} (K : Kind L) where
         | inr p ↦ get_or-set_other v n i x K.zero p ∙ h i (omega arith)
       ]
 
-  pub past_set : (n m k : ℕ) (V v : List L) (x : L) → Past K n V v → k < m → n ≤ m → Past K m V (set v k x)
+  pub past_set : (n m k : ℕ) (V v : List L) (x : L) → TailKept K n V v → k < m → n ≤ m → TailKept K m V (set v k x)
   past_set n m k V v x h l g i r = get_or-set_other v k i x K.zero (omega arith) ∙ h i (omega arith)
 
 -- from the front

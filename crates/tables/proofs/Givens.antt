@@ -10,7 +10,8 @@ use Rattle.labels.specs.Numbers.{bit}
 use Rattle.tables.specs.Mixed.{mixed}
 use Rattle.tables.specs.Table.{places, masked, level, picked, halved, given, random}
 use Rattle.tables.specs.Level.{Holds, Numbered}
-use Rattle.tables.proofs.Numbering.{two_pow, mixed_ext}
+use Rattle.tables.proofs.Numbering.{mixed_ext}
+use Rattle.labels.proofs.Numbers.{two_pow}
 use Rattle.tables.proofs.Masks.{twice_next, masked_ext}
 use Rattle.tables.proofs.Parts.{mid_at, mid_before, mid_long}
 

@@ -5,7 +5,7 @@ use Rattle.gates.specs.Tweak.{tweak}
 use Rattle.labels.specs.Kind.{Kind}
 use Rattle.tables.specs.Table.{places, sum, grown, filled, hashed, hot, hot_row, seen, colours}
 use Rattle.tables.specs.Level.{Holds}
-use Rattle.tables.proofs.Numbering.{two_pow}
+use Rattle.labels.proofs.Numbers.{two_pow}
 use Rattle.tables.proofs.Sums.{sum_ext}
 
 -- 2^(j+1) places are within 2^n

@@ -7,7 +7,8 @@ use Rattle.labels.specs.Kind.{Kind, times}
 use Rattle.labels.specs.Numbers.{bit}
 use Rattle.tables.specs.Table.{places, sum, chosen, masked, picked, halved, taken, seen, found}
 use Rattle.tables.specs.Level.{Holds}
-use Rattle.tables.proofs.Numbering.{two_pow, fits_eight}
+use Rattle.tables.proofs.Numbering.{fits_eight}
+use Rattle.labels.proofs.Numbers.{two_pow}
 use Rattle.tables.proofs.Parts.{front_at}
 use Rattle.tables.proofs.Sums.{sum_ext}
 

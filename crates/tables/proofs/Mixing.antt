@@ -5,7 +5,8 @@ use lib.Pow.{low}
 use Rattle.std.proofs.lemmas.Bool.{cases_lt, cases_eq}
 use Rattle.std.proofs.lemmas.List.{length-set, get_or-set_same, get_or-set_other}
 use Rattle.tables.specs.Mixed.{mixed}
-use Rattle.tables.proofs.Numbering.{mixed_ext, mod_longer, two_pow}
+use Rattle.tables.proofs.Numbering.{mixed_ext, mod_longer}
+use Rattle.labels.proofs.Numbers.{two_pow}
 
 swap_last : (a b c : ℕ) → bit_xor (bit_xor a b) c ≡ bit_xor (bit_xor a c) b
 swap_last a b c = xor_assoc a b c ∙ ap (bit_xor a) (xor_comm b c) ∙ sym (xor_assoc a c b)

@@ -1,12 +1,13 @@
 -- Bits of numbers, and numbers of bits. Assumes nothing.
 use Rattle.std.proofs.Common.{◌≡◌, ℕ, zero, suc, ◌+◌, ◌-◌, ◌*◌, ◌/◌, ◌%◌, ◌^◌, ◌<◌, ◌≤◌, Bool, true, false, cond, eqb, sym, refl, ap, ◌∙◌, ap₂, inl, inr, add-zero, add-suc, add_comm, add_assoc, mul_assoc, add-mul, mod-eq_of_lt, arith, pow_mono, pow-add}
-use native.Mathlib.Nat.{two-pow-succ, zero-div}
+use native.Mathlib.Nat.{zero-div}
 use lib.Bits.{bit_xor, xor_shr, xor_block}
 use lib.Pow.{high, low, field, mod-mod-pow, mod-pow-add}
 use Rattle.std.proofs.lemmas.Bool.{cases_lt}
 use Rattle.labels.specs.Kind.{differs}
 use Rattle.labels.specs.Words.{odd, odd_xor}
 use Rattle.labels.specs.Numbers.{bit, number}
+use Rattle.labels.proofs.Numbers.{number_below}
 use Rattle.tables.specs.Mixed.{mixed}
 
 pub bit_xor_lem : (j a b : ℕ) → bit j (bit_xor a b) ≡ differs (bit j a) (bit j b)
@@ -14,16 +15,6 @@ bit_xor_lem j a b = ap odd (xor_shr a b j) ∙ odd_xor (a / 2 ^ j) (b / 2 ^ j)
 
 pub bit_zero : (j : ℕ) → bit j 0 ≡ false
 bit_zero j = ap odd (zero-div (2 ^ j))
-
-pub two_pow : (k : ℕ) → 2 ^ suc k ≡ 2 ^ k + 2 ^ k
-two_pow k = two-pow-succ k
-
-pub number_below : (n : ℕ) (b : ℕ → Bool) → number n b < 2 ^ n
-number_below zero b = omega arith
-number_below (suc n) b =
-    let ih = number_below n b in
-    let e = two_pow n in
-    elim (b n) as (λ v. cond v 1 0 * 2 ^ n + number n b < 2 ^ suc n) [ true ↦ omega arith | false ↦ omega arith ]
 
 pub mod_longer : (a p q : ℕ) → p ≤ q → a % 2 ^ q % 2 ^ p ≡ a % 2 ^ p
 mod_longer a p q h =
@@ -98,10 +89,6 @@ number_xor zero b c = refl
 number_xor (suc n) b c =
     xor_block n (cond (b n) 1 0) (cond (c n) 1 0) (number n b) (number n c) (number_below n b) (number_below n c)
     ∙ ap₂ (λ u v. u * 2 ^ n + v) (xor_one (b n) (c n)) (number_xor n b c)
-
-pub number_ext : (n : ℕ) (b c : ℕ → Bool) → ((k : ℕ) → k < n → b k ≡ c k) → number n b ≡ number n c
-number_ext zero b c h = refl
-number_ext (suc n) b c h = ap₂ (λ u v. cond u 1 0 * 2 ^ n + v) (h n (omega arith)) (number_ext n b c (λ k g. h k (omega arith)))
 
 pub mixed_ext : (n : ℕ) (f g : ℕ → ℕ) → ((k : ℕ) → k < n → f k ≡ g k) → mixed n f ≡ mixed n g
 mixed_ext zero f g h = refl

@@ -5,7 +5,7 @@ use Rattle.gates.specs.Tweak.{tweak}
 use Rattle.labels.specs.Kind.{Kind, times}
 use Rattle.labels.proofs.Group.{group}
 use Rattle.tables.specs.Table.{sum, grown, filled, hashed, hot, hot_row, seen, colours}
-use Rattle.tables.proofs.Numbering.{two_pow, number_below}
+use Rattle.labels.proofs.Numbers.{two_pow, number_below}
 use Rattle.tables.proofs.Sums.{sum_off}
 
 pub eqb_same : (a b c d : ℕ) → (a ≡ b → c ≡ d) → (c ≡ d → a ≡ b) → eqb a b ≡ eqb c d

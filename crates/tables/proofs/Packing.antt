@@ -9,7 +9,8 @@ use Rattle.labels.specs.Numbers.{bit, number}
 use Rattle.material.specs.Size.{in_bytes}
 use Rattle.tables.specs.Material.{listed, stream, packed, bit_at, unpacked}
 use Rattle.tables.specs.Level.{Packing}
-use Rattle.tables.proofs.Numbering.{number_below, number_bit, number_ext, number_low, number_of, number_split, number_field}
+use Rattle.tables.proofs.Numbering.{number_bit, number_low, number_of, number_split, number_field}
+use Rattle.labels.proofs.Numbers.{number_below, number_same}
 
 -- lists of a function
 module _ {X : Type 0} (f : ℕ → X) where
@@ -62,7 +63,7 @@ module _ (w m : ℕ) (f : ℕ → ℕ) where
   packing_row at count bits i a c x bytes h p l ea ec ex =
       let s : ℕ → Bool = λ k. stream w m f (8 * at + k) in
       let row : f i % 2 ^ m ≡ number m (λ j. s (count + j)) =
-      sym (number_of m (f i)) ∙ number_ext m _ _ (λ j g. let q : i * m + j ≡ 8 * at + (count + j) = omega arith in sym (stream_at i j l g) ∙ ap (stream w m f) q) in
+      sym (number_of m (f i)) ∙ number_same m _ _ (λ j g. let q : i * m + j ≡ 8 * at + (count + j) = omega arith in sym (stream_at i j l g) ∙ ap (stream w m f) q) in
       subst (λ b. Packing w m f b c x bytes) (sym ea) (record {
         written = h.written;
         held = ex ∙ ap₂ (λ a b. a * 2 ^ count + b) row h.held ∙ sym (number_split count m s) ∙ ap (λ k. number k s) (sym ec);
@@ -84,7 +85,7 @@ module _ (w m : ℕ) (f : ℕ → ℕ) where
         held =
             ap (λ x. x / 2 ^ 8) (h.held ∙ ap (λ k. number k s) n ∙ number_split 8 (count - 8) s)
             ∙ high (number (count - 8) (λ k. s (8 + k))) 8 (number_below 8 s)
-            ∙ number_ext (count - 8) _ _ (λ k _. let q : 8 * at + (8 + k) ≡ 8 * (at + 1) + k = omega arith in ap (stream w m f) q);
+            ∙ number_same (count - 8) _ _ (λ k _. let q : 8 * at + (8 + k) ≡ 8 * (at + 1) + k = omega arith in ap (stream w m f) q);
       }
 
   -- the held bits are few
@@ -131,7 +132,7 @@ module _ (w m : ℕ) (f : ℕ → ℕ) where
 -- other numbers that are the same at each row
 pub packed_ext : (v w m : ℕ) (f h : ℕ → ℕ) → v ≡ w → ((i : ℕ) → i < w → f i ≡ h i) → packed v m f ≡ packed w m h
 packed_ext v w m f h e q =
-    ap (λ n. packed n m f) e ∙ listed_ext (in_bytes (w * m)) _ _ (λ b l. number_ext 8 _ _ (λ k g. same (8 * b + k)))
+    ap (λ n. packed n m f) e ∙ listed_ext (in_bytes (w * m)) _ _ (λ b l. number_same 8 _ _ (λ k g. same (8 * b + k)))
   where
     same : (p : ℕ) → stream w m f p ≡ stream w m h p
     same p =
@@ -148,7 +149,7 @@ packed_ext v w m f h e q =
 byte_bits : (bytes : List ℕ) (q a : ℕ) → a ≡ get_or bytes q 0 → a < 256 → a ≡ number 8 (λ k. bit_at bytes (8 * q + k))
 byte_bits bytes q a e l =
     sym (mod-eq_of_lt l) ∙ sym (number_of 8 a)
-    ∙ number_ext 8 _ _ (λ k g. let r : k ≡ (8 * q + k) % 8 = omega arith in let d : q ≡ (8 * q + k) / 8 = omega arith in ap (bit k) (e ∙ ap (λ i. get_or bytes i 0) d) ∙ ap (λ i. bit i (get_or bytes ((8 * q + k) / 8) 0)) r)
+    ∙ number_same 8 _ _ (λ k g. let r : k ≡ (8 * q + k) % 8 = omega arith in let d : q ≡ (8 * q + k) / 8 = omega arith in ap (bit k) (e ∙ ap (λ i. get_or bytes i 0) d) ∙ ap (λ i. bit i (get_or bytes ((8 * q + k) / 8) 0)) r)
 
 -- a field of three digits of a bits
 three_parts : (a x y z n r m : ℕ) (s : ℕ → Bool) → x ≡ number a s → y ≡ number a (λ k. s (a + k)) → z ≡ number a (λ k. s (a + (a + k))) → n ≡ (z * 2 ^ a + y) * 2 ^ a + x → r + m ≤ a + (a + a)
@@ -165,8 +166,8 @@ window_at bytes p m a b c n ea la eb lb ec lc lm en =
     let q : ℕ = p / 8 in
     let s : ℕ → Bool = λ k. bit_at bytes (8 * q + k) in
     let y : b ≡ number 8 (λ k. s (8 + k)) =
-    byte_bits bytes (q + 1) b eb lb ∙ number_ext 8 _ _ (λ k _. let i : 8 * (q + 1) + k ≡ 8 * q + (8 + k) = omega arith in ap (bit_at bytes) i) in
+    byte_bits bytes (q + 1) b eb lb ∙ number_same 8 _ _ (λ k _. let i : 8 * (q + 1) + k ≡ 8 * q + (8 + k) = omega arith in ap (bit_at bytes) i) in
     let z : c ≡ number 8 (λ k. s (8 + (8 + k))) =
-    byte_bits bytes (q + 2) c ec lc ∙ number_ext 8 _ _ (λ k _. let i : 8 * (q + 2) + k ≡ 8 * q + (8 + (8 + k)) = omega arith in ap (bit_at bytes) i) in
+    byte_bits bytes (q + 2) c ec lc ∙ number_same 8 _ _ (λ k _. let i : 8 * (q + 2) + k ≡ 8 * q + (8 + (8 + k)) = omega arith in ap (bit_at bytes) i) in
     three_parts 8 a b c n (p % 8) m s (byte_bits bytes q a ea la) y z (omega arith) (omega arith)
-    ∙ number_ext m _ _ (λ j _. let i : 8 * q + (p % 8 + j) ≡ p + j = omega arith in ap (bit_at bytes) i)
+    ∙ number_same m _ _ (λ j _. let i : 8 * q + (p % 8 + j) ≡ p + j = omega arith in ap (bit_at bytes) i)

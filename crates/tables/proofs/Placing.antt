@@ -3,16 +3,16 @@ use Rattle.std.proofs.Common.{◌≡◌, ℕ, ◌+◌, ◌-◌, ◌*◌, ◌≤�
 use borrow.Rule.Slice.PartMut.{put_mid}
 use Rattle.std.proofs.lemmas.List.{append-nil, drop_all, length-take-le, take_at, drop_at, take-take, drop-drop, drop-take, take-append-le}
 use Rattle.std.proofs.lemmas.Bool.{cases_lt}
-use Rattle.gates.specs.Bytes.{laid, part}
+use Rattle.gates.specs.Bytes.{laid, bytes_at}
 use Rattle.tables.proofs.Masks.{rows_within}
 
 -- the part that was written
-pub part_here : (a w : ℕ) (new xs : List ℕ) → length new ≡ w → a ≤ length xs → part a w (laid a new xs) ≡ new
+pub part_here : (a w : ℕ) (new xs : List ℕ) → length new ≡ w → a ≤ length xs → bytes_at a w (laid a new xs) ≡ new
 part_here a w new xs e l =
     ap (take w) (drop_at (take a xs) (new ++ drop (a + length new) xs) a (length-take-le a xs l)) ∙ take_at new (drop (a + length new) xs) w e
 
 -- a part before it
-pub part_front : (a b w : ℕ) (xs tail : List ℕ) → b + w ≤ a → a ≤ length xs → part b w (take a xs ++ tail) ≡ part b w xs
+pub part_front : (a b w : ℕ) (xs tail : List ℕ) → b + w ≤ a → a ≤ length xs → bytes_at b w (take a xs ++ tail) ≡ bytes_at b w xs
 part_front a b w xs tail l h =
     let n = length-take-le a xs h in
     sym (drop-take b w (take a xs ++ tail)) ∙ ap (drop b) (take-append-le (b + w) (take a xs) tail (omega arith) ∙ take-take (b + w) a xs l) ∙ drop-take b w xs
@@ -31,7 +31,7 @@ drop_past a b new xs l h =
     ∙ ap (λ k. drop k xs) f
 
 -- another row than the one written
-pub row_other : (w k i : ℕ) (new xs : List ℕ) → length new ≡ w → k * w + w ≤ length xs → (i ≡ k → ⊥) → part (i * w) w (laid (k * w) new xs) ≡ part (i * w) w xs
+pub row_other : (w k i : ℕ) (new xs : List ℕ) → length new ≡ w → k * w + w ≤ length xs → (i ≡ k → ⊥) → bytes_at (i * w) w (laid (k * w) new xs) ≡ bytes_at (i * w) w xs
 row_other w k i new xs e l ne =
     elim (cases_lt i k) [
       | inl h ↦ (let r = rows_within i k w h in part_front (k * w) (i * w) w xs (new ++ drop (k * w + length new) xs) (omega arith) (omega arith))

@@ -5,7 +5,7 @@ use Rattle.std.proofs.lemmas.Nat.{div_below, mod_below, div-add-mod'}
 use Rattle.std.proofs.lemmas.List.{append-nil, append_assoc, length-append, take-append-drop, take_at, drop_at, take-take, drop-drop, drop-take}
 use Rattle.std.proofs.lemmas.Bool.{cases_lt}
 use Rattle.labels.specs.Kind.{Kind}
-use Rattle.gates.specs.Bytes.{part}
+use Rattle.gates.specs.Bytes.{bytes_at}
 use Rattle.material.specs.Size.{labels_of}
 use Rattle.tables.specs.Material.{each, packed, row_bytes, written}
 use Rattle.tables.proofs.Masks.{next_row, rows_within}
@@ -18,27 +18,27 @@ module _ (w : ℕ) (f : ℕ → List ℕ) (long : (i : ℕ) → length (f i) ≡
       let e : suc n * w ≡ n * w + w = (let q : suc n ≡ n + 1 = omega arith in ap (λ k. k * w) q) ∙ next_row n w in
       length-append (each n f) (f n) ∙ ap₂ ◌+◌ (length_each n) (long n) ∙ sym e
 
-  pub each_part : (n k : ℕ) (rest : List ℕ) → k < n → part (k * w) w (each n f ++ rest) ≡ f k
+  pub each_part : (n k : ℕ) (rest : List ℕ) → k < n → bytes_at (k * w) w (each n f ++ rest) ≡ f k
   each_part zero k rest l = absurd (omega arith)
   each_part (suc n) k rest l =
-      ap (part (k * w) w) (append_assoc (each n f) (f n) rest)
+      ap (bytes_at (k * w) w) (append_assoc (each n f) (f n) rest)
       ∙ elim (cases_lt k n) [
         | inl h ↦ each_part n k (f n ++ rest) h
         | inr h ↦ (let q : k ≡ n = omega arith in
-            ap (λ i. part (i * w) w (each n f ++ (f n ++ rest))) q
+            ap (λ i. bytes_at (i * w) w (each n f ++ (f n ++ rest))) q
             ∙ ap (take w) (drop_at (each n f) (f n ++ rest) (n * w) (length_each n)) ∙ take_at (f n) rest w (long n) ∙ ap f (sym q))
       ]
 
 -- a part of what follows, and a part of a part
-pub part_after : (a b w : ℕ) (xs ys : List ℕ) → length xs ≡ a → part (a + b) w (xs ++ ys) ≡ part b w ys
-part_after a b w xs ys e = ap (λ k. part (k + b) w (xs ++ ys)) (sym e) ∙ ap (take w) (drop-append-add xs ys b)
+pub part_after : (a b w : ℕ) (xs ys : List ℕ) → length xs ≡ a → bytes_at (a + b) w (xs ++ ys) ≡ bytes_at b w ys
+part_after a b w xs ys e = ap (λ k. bytes_at (k + b) w (xs ++ ys)) (sym e) ∙ ap (take w) (drop-append-add xs ys b)
 
-pub part_part : (a b s w : ℕ) (xs : List ℕ) → b + w ≤ s → part (a + b) w xs ≡ part b w (part a s xs)
+pub part_part : (a b s w : ℕ) (xs : List ℕ) → b + w ≤ s → bytes_at (a + b) w xs ≡ bytes_at b w (bytes_at a s xs)
 part_part a b s w xs l =
     ap (take w) (sym (drop-drop b a xs)) ∙ sym (drop-take b w (drop a xs)) ∙ ap (drop b) (sym (take-take (b + w) s (drop a xs) l)) ∙ drop-take b w (take s (drop a xs))
 
 -- equal rows are equal fronts
-pub rows_same : (w r : ℕ) (xs ys : List ℕ) → ((k : ℕ) → k < r → part (k * w) w xs ≡ part (k * w) w ys) → take (r * w) xs ≡ take (r * w) ys
+pub rows_same : (w r : ℕ) (xs ys : List ℕ) → ((k : ℕ) → k < r → bytes_at (k * w) w xs ≡ bytes_at (k * w) w ys) → take (r * w) xs ≡ take (r * w) ys
 rows_same w zero xs ys h = let e : 0 * w ≡ 0 = omega arith in ap (λ k. take k xs) e ∙ ap (λ k. take k ys) (sym e)
 rows_same w (suc r) xs ys h =
     let e : suc r * w ≡ r * w + w = (let q : suc r ≡ r + 1 = omega arith in ap (λ k. k * w) q) ∙ next_row r w in
@@ -73,10 +73,10 @@ module _ {L : Type 0} (K : Kind L) (n m : ℕ) (rows : ℕ → L) (masks : ℕ �
   masks_back d l j h =
       let e : (n - 1 + (d * m + j)) * W ≡ (n - 1) * W + (d * (m * W) + j * W) =
       add-mul (n - 1) (d * m + j) W ∙ ap (λ k. (n - 1) * W + k) (add-mul (d * m) j W ∙ ap (λ k. k + j * W) (mul_assoc d m W)) in
-      ap (λ a. part a W all) e
+      ap (λ a. bytes_at a W all) e
       ∙ part_after ((n - 1) * W) (d * (m * W) + j * W) W hots (each n level ++ packed (2 ^ n) m f) length_hots
       ∙ part_part (d * (m * W)) (j * W) (m * W) W (each n level ++ packed (2 ^ n) m f) (rows_within j m W h)
-      ∙ ap (part (j * W) W) (each_part (m * W) level length_level n d (packed (2 ^ n) m f) l ∙ sym (append-nil (level d)))
+      ∙ ap (bytes_at (j * W) W) (each_part (m * W) level length_level n d (packed (2 ^ n) m f) l ∙ sym (append-nil (level d)))
       ∙ each_part W (λ j. K.bytes (masks d j)) (λ j. K.bytes_long (masks d j)) m j [] h
 
   pub table_back : drop (labels_of n m * W) all ≡ packed (2 ^ n) m f

@@ -8,7 +8,8 @@ use Rattle.labels.proofs.Group.{group}
 use Rattle.labels.specs.Numbers.{bit, number}
 use Rattle.tables.specs.Mixed.{mixed}
 use Rattle.tables.specs.Table.{sum, chosen, based, colours, halved, hot, hot_row, seen, picked, share, given, mask_row, taken, random, turned, made, found}
-use Rattle.tables.proofs.Numbering.{bit_xor_lem, bit_zero, two_pow, number_below, number_low, number_bit, number_xor, number_ext, mixed_ext}
+use Rattle.tables.proofs.Numbering.{bit_xor_lem, bit_zero, number_low, number_bit, number_xor, mixed_ext}
+use Rattle.labels.proofs.Numbers.{two_pow, number_below, number_same}
 use Rattle.tables.proofs.Sums.{times_differs, chosen_off}
 use Rattle.gates.proofs.Halves.{colour_of_bit}
 use Rattle.tables.proofs.OneHot.{eqb_same, Off, hot_off}
@@ -147,7 +148,7 @@ module _ {L : Type 0} (K : Kind L) where
         λ k l. hE k l ∙ from_base (A k) Δ (K.colour (A k)) (a k) ∙ ap (λ v. K.xor (B k) (times K v Δ)) (sym (hc k l)) in
         let o : Off K Δ (2 ^ n) x V W = hot_off K Δ F gate rows B E n hB hr n ln (omega arith) in
         let own : bit_xor x (colours K n A) ≡ number n a =
-        number_xor n (λ k. K.colour (E k)) (λ k. K.colour (A k)) ∙ number_ext n _ a (λ k l. ap (λ v. differs v (K.colour (A k))) (hc k l) ∙ differs_back (K.colour (A k)) (a k)) in
+        number_xor n (λ k. K.colour (E k)) (λ k. K.colour (A k)) ∙ number_same n _ a (λ k l. ap (λ v. differs v (K.colour (A k))) (hc k l) ∙ differs_back (K.colour (A k)) (a k)) in
         let fx : bit j (turned K F gate m n s Δ B row (colours K n A) x) ≡ differs (bit j R) (differs (bit j s) (bit j N)) =
         ap₂ (λ y z. bit j (bit_xor (row y) z)) own (random_there n s Δ B E) ∙ bit_xor_lem j R (bit_xor s N) ∙ ap (differs (bit j R)) (bit_xor_lem j s N) in
         ap₂ K.xor (parts_off n j Δ B E V W masks hB o hm n (omega arith))

@@ -3,8 +3,9 @@ use Rattle.std.specs.Prelude.{◌≡◌, ℕ, ◌+◌, ◌-◌, ◌*◌, ◌^◌
 use Rattle.labels.specs.Kind.{Kind, times}
 use Rattle.hashes.specs.Draws.{draw}
 use Rattle.labels.specs.Numbers.{bit, number}
+use Rattle.labels.specs.Words.{word_at}
 use Rattle.tables.specs.Table.{places, based, colours, hot, hot_row, mask_row, turned, made, found}
-use Rattle.tables.specs.Material.{listed, row_word, written, one_hot_rows, mask_rows, table_rows}
+use Rattle.tables.specs.Material.{listed, written, one_hot_rows, mask_rows, table_rows}
 
 module _ {L : Type 0} (K : Kind L) (F : L → ℕ → L) (g n m : ℕ) where
   -- s: the m lowest bits of draw 2048 + g
@@ -46,10 +47,10 @@ module _ {L : Type 0} (K : Kind L) (F : L → ℕ → L) (g n m : ℕ) where
 -- the material and the zero labels, as the garbler's step has them from the seed, the operands' zero labels and the circuit's row bytes
 module _ {L : Type 0} (K : Kind L) (F : L → ℕ → L) (g : ℕ) (seed Δ : L) (zeros : List L) (rows : List ℕ) (m : ℕ) where
   abbrev pub material_for : List ℕ
-  material_for = material K F g (length zeros) m (drawn K F g (length zeros) m seed) Δ (places K zeros) (row_word rows)
+  material_for = material K F g (length zeros) m (drawn K F g (length zeros) m seed) Δ (places K zeros) (word_at rows)
 
   abbrev pub zeros_for : List L
-  zeros_for = zero_labels K F g (length zeros) m (drawn K F g (length zeros) m seed) Δ (places K zeros) (row_word rows)
+  zeros_for = zero_labels K F g (length zeros) m (drawn K F g (length zeros) m seed) Δ (places K zeros) (word_at rows)
 
 -- whoever holds the labels of n bits gets the labels of the bits of their row
 abbrev pub Sound : {L : Type 0} → Kind L → Type 0

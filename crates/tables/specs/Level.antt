@@ -14,10 +14,6 @@ module _ {L : Type 0} (K : Kind L) where
   abbrev pub Holds : ℕ → (ℕ → L) → List L → Type 0
   Holds n f v = (i : ℕ) → i < n → places K v i ≡ f i
 
-  -- v is V from the place n on
-  abbrev pub Past : ℕ → List L → List L → Type 0
-  Past n V v = (i : ℕ) → n ≤ i → places K v i ≡ places K V i
-
   -- the ⊕ of f a to f (b - 1), for a ≤ b
   abbrev pub between : ℕ → ℕ → (ℕ → L) → L
   between a b f = K.xor (sum K a f) (sum K b f)

@@ -1,7 +1,7 @@
 -- A table gate's material in bytes: rows of labels, then a table of bits. Assumes nothing.
 use Rattle.std.specs.Prelude.{ℕ, zero, suc, ◌+◌, ◌-◌, ◌*◌, ◌/◌, ◌%◌, ◌^◌, Bool, false, cond, List, [], ◌∷◌, ◌++◌, drop, nat_lt, slice_index}
 use Rattle.labels.specs.Kind.{Kind}
-use Rattle.gates.specs.Bytes.{part}
+use Rattle.gates.specs.Bytes.{bytes_at}
 use Rattle.material.specs.Size.{in_bytes, labels_of}
 use Rattle.labels.specs.Numbers.{bit, number}
 
@@ -13,10 +13,6 @@ each (suc n) f = each n f ++ f n
 -- the list f 0, f 1, up to f (n - 1)
 abbrev pub listed : {X : Type 0} → ℕ → (ℕ → X) → List X
 listed n f = each n (λ i. f i ∷ [])
-
--- row i of a circuit's row bytes: words of 16 bits, the low byte first
-abbrev pub row_word : List ℕ → ℕ → ℕ
-row_word bytes i = slice_index bytes (2 * i) + 256 * slice_index bytes (2 * i + 1)
 
 -- bit p of w rows of m bits, row after row, the lowest bit first, with zero bits past the last row
 abbrev pub stream : ℕ → ℕ → (ℕ → ℕ) → ℕ → Bool
@@ -37,7 +33,7 @@ unpacked m bytes i = number m (λ j. bit_at bytes (i * m + j))
 module _ {L : Type 0} (K : Kind L) where
   -- the bytes of row k of a material, and the label that they write
   abbrev pub row_bytes : ℕ → List ℕ → List ℕ
-  row_bytes k bytes = part (k * K.width) K.width bytes
+  row_bytes k bytes = bytes_at (k * K.width) K.width bytes
 
   abbrev pub row_at : List ℕ → ℕ → L
   row_at bytes k = K.from (row_bytes k bytes)

@@ -5,9 +5,10 @@ ghost use Rattle.tables.specs.All.{Sound};
 ghost use Rattle.tables.specs.Gate.{material_for, zeros_for, evaluated, Meets, garbler_calls, evaluator_calls};
 ghost use Rattle.tables.specs.Level.{bases, Holds};
 ghost use Rattle.material.specs.Size.{labels_of, bytes_of};
-ghost use Rattle.tables.specs.Material.{row_bytes, row_word};
+ghost use Rattle.tables.specs.Material.{row_bytes};
 ghost use Rattle.tables.specs.Ran.{Ran};
 ghost use Rattle.std.specs.Mem.{type_size};
+ghost use Rattle.labels.specs.Words.{word_at};
 ghost use Rattle.tables.specs.Table.{places, colours as of_colours, hot, hot_row, mask_row, turned, made};
 
 use crate::levels::{evaluate_levels, garble_levels};
@@ -43,10 +44,10 @@ fn garble_labels<L: Label, H: LabelHash<L>>(
     requires turns { length fs.old ≡ 2 ^ length zeros.now }
     requires words { length rows.now ≡ 2 * 2 ^ length zeros.now }
     requires room { labels_of (length zeros.now) (length new.old) * L.kind.width ≤ length material.old }
-    ensures news { Holds L.kind (length new.old) (made L.kind (H.means h.old) gate (length new.old) (length zeros.now) s offset (places L.kind zeros.now) (row_word rows.now)) new.new }
+    ensures news { Holds L.kind (length new.old) (made L.kind (H.means h.old) gate (length new.old) (length zeros.now) s offset (places L.kind zeros.now) (word_at rows.now)) new.new }
     ensures hots { (k : ℕ) → k < length zeros.now - 1 → row_bytes L.kind k material.new ≡ L.kind.bytes (hot_row L.kind (H.means h.old) gate offset (bases L.kind offset zeros.now) (suc k)) }
     ensures masks { (d : ℕ) → d < length zeros.now → (j : ℕ) → j < length new.old → row_bytes L.kind (length zeros.now - 1 + (d * length new.old + j)) material.new ≡ L.kind.bytes (mask_row L.kind (H.means h.old) gate (length new.old) (length zeros.now) offset (bases L.kind offset zeros.now) (hot L.kind (H.means h.old) gate offset (bases L.kind offset zeros.now) (length zeros.now)) d j) }
-    ensures turns { (i : ℕ) → i < 2 ^ length zeros.now → slice_index fs.new i ≡ turned L.kind (H.means h.old) gate (length new.old) (length zeros.now) s offset (bases L.kind offset zeros.now) (row_word rows.now) (of_colours L.kind (length zeros.now) (places L.kind zeros.now)) i }
+    ensures turns { (i : ℕ) → i < 2 ^ length zeros.now → slice_index fs.new i ≡ turned L.kind (H.means h.old) gate (length new.old) (length zeros.now) s offset (bases L.kind offset zeros.now) (word_at rows.now) (of_colours L.kind (length zeros.now) (places L.kind zeros.now)) i }
     ensures ran { Ran (H.means h.old) (H.means h.new) (H.calls h.old) (H.calls h.new) (3 * 2 ^ length zeros.now - 4 + 2 * (length zeros.now * length new.old)) }
 {
     let n = zeros.len();

@@ -1,7 +1,7 @@
 // The numbers of the random function r, and the masked table f'.
 ghost use Rattle.std.specs.Prelude.{◌≡◌, ℕ, ◌+◌, ◌-◌, ◌*◌, ◌%◌, ◌^◌, ◌<◌, ◌≤◌, length, bit_xor, slice_index, EachIndex};
 ghost use Rattle.tables.specs.Level.{bases, Numbered};
-ghost use Rattle.tables.specs.Material.{row_word};
+ghost use Rattle.labels.specs.Words.{word_at};
 ghost use Rattle.tables.specs.Mixed.{mixed};
 ghost use Rattle.tables.specs.Ran.{Ran};
 ghost use Rattle.tables.specs.Table.{picked};
@@ -86,7 +86,7 @@ pub fn mask_table(rows: &[u8], alpha: usize, s: u16, nums: &[u16], n: usize, fs:
     requires numbers { 2 * 2 ^ n ≤ length nums.now }
     requires words { 2 * 2 ^ n ≤ length rows.now }
     requires places { length fs.old ≡ 2 ^ n }
-    ensures { EachIndex fs.new (λ i. slice_index fs.new i ≡ bit_xor (row_word rows.now (bit_xor i alpha)) (bit_xor s (mixed n (λ d. slice_index nums.now (2 ^ (n - d) + i % 2 ^ (n - d)))))) }
+    ensures { EachIndex fs.new (λ i. slice_index fs.new i ≡ bit_xor (word_at rows.now (bit_xor i alpha)) (bit_xor s (mixed n (λ d. slice_index nums.now (2 ^ (n - d) + i % 2 ^ (n - d)))))) }
 {
     mix_levels(s, nums, n, fs);
     for (i, f) in fs.iter_mut().enumerate() {

@@ -1,6 +1,7 @@
 // Rows of labels in the material's bytes, and the circuit's table rows.
 ghost use Rattle.std.specs.Prelude.{◌≡◌, ℕ, ◌+◌, ◌*◌, ◌<◌, ◌≤◌, length, ◌≢◌};
-ghost use Rattle.tables.specs.Material.{row_bytes, row_at, row_word};
+ghost use Rattle.labels.specs.Words.{word_at};
+ghost use Rattle.tables.specs.Material.{row_bytes, row_at};
 
 use gates::rows;
 use labels::kind::Label;
@@ -25,7 +26,7 @@ pub fn get_row<L: Label>(material: &[u8], k: usize) -> L
 // Row i of the circuit's table. A word is read here too, since this crate knows no format of circuits.
 pub fn table_row(rows: &[u8], i: usize) -> u16
     requires { 2 * i + 1 < length rows.now }
-    ensures { result ≡ row_word rows.now i }
+    ensures { result ≡ word_at rows.now i }
 {
     u16::from_le_bytes([rows[2 * i], rows[2 * i + 1]])
 }

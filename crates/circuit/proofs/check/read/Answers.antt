@@ -1,6 +1,7 @@
 use Rattle.std.proofs.Common.{◌≡◌, ℕ, ◌/◌, Bool, List, length, sym, ap, ◌∙◌}
 use Rattle.std.proofs.lemmas.Result.{err_from_is_err_and}
-use Rattle.circuit.specs.Words.{word_at, all_below}
+use Rattle.labels.specs.Words.{word_at}
+use Rattle.circuit.specs.Words.{all_below}
 use Rattle.circuit.specs.Header.{within}
 use Rattle.circuit.proofs.Circuits.{too_short, bad_size, cut_fails, gates_stopped, outputs_stopped, read_passes}
 use Rattle.circuit.proofs.check.read.Goals as goal

@@ -1,10 +1,11 @@
 use Rattle.std.proofs.Common.{◌≡◌, ℕ, ◌+◌, ◌-◌, ◌*◌, ◌/◌, ◌≤◌, List, length, take, sym, ap, ◌∙◌, arith, rules}
 use Rattle.std.proofs.lemmas.Result.{err_from_is_err_and}
 use Rattle.circuit.specs.Lent.{parts_in}
-use Rattle.circuit.specs.Words.{part, word_at}
+use Rattle.circuit.specs.Words.{part}
 use Rattle.circuit.specs.Parts.{Parts}
 use Rattle.circuit.specs.Gates.{form_of, place_of, rows_from}
 use Rattle.std.proofs.lemmas.List.{length-take-le}
+use Rattle.labels.specs.Words.{word_at}
 use Rattle.circuit.proofs.Wholes.{whole_in}
 use Rattle.circuit.proofs.Shapes.{table_unknown, operands_past, rows_past, table_fits, is_table_form}
 use Rattle.circuit.proofs.Stretches.{word_of_part, part_front, length_part}

@@ -3,7 +3,7 @@ use Rattle.labels.specs.Kind.{Kind, times}
 use Rattle.hashes.specs.Draws.{offset}
 use Rattle.circuit.specs.Parts.{Parts, parts_of}
 use Rattle.laws.specs.Carried.{AllCarried}
-use Rattle.laws.specs.Ordered.{Ordered}
+use Rattle.laws.proofs.Ordered.{Ordered}
 use Rattle.laws.proofs.Bits.{plain_input, plain_fresh}
 use Rattle.laws.proofs.Order.{ordered_check}
 use Rattle.laws.proofs.Zeros.{zero_input, zero_fresh, label_input, label_fresh}

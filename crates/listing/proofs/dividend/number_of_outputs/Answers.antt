@@ -1,5 +1,6 @@
 use Rattle.std.proofs.Common.{ℕ, ◌≤◌, Bool, eqb, get_or, arith, rules}
-use Rattle.plain.proofs.Numbers.{number_below, shifted_fits}
+use Rattle.plain.proofs.Numbers.{shifted_fits}
+use Rattle.labels.proofs.Numbers.{number_below}
 use Rattle.listing.proofs.dividend.number_of_outputs.Goals as goal
 
 pub overflow_add-sum : goal.overflow_add-sum

@@ -1,7 +1,7 @@
 use Rattle.std.proofs.Common.{Bool, eqb, length, get_or, ap, ◌∙◌, arith}
 use Rattle.labels.specs.Kind.{differs}
 use Rattle.labels.specs.Numbers.{digit}
-use Rattle.circuit.specs.Words.{word_at}
+use Rattle.labels.specs.Words.{word_at}
 use Rattle.circuit.proofs.Bounds.{each_below}
 use Rattle.tables.proofs.Filling.{there_first}
 use Rattle.tables.proofs.Packing.{listed_all}

@@ -1,7 +1,7 @@
 use Rattle.std.proofs.Common.{◌≡◌, ℕ, ◌+◌, ◌-◌, ◌/◌, Bool, false, List, length, get_or, take, drop, sym, ap, ◌∙◌, subst, arith, Bor, rules}
 use Rattle.std.proofs.lemmas.List.{length-drop, length-take-le}
 use Rattle.labels.specs.Numbers.{bit, number}
-use Rattle.circuit.specs.Words.{word_at}
+use Rattle.labels.specs.Words.{word_at}
 use Rattle.circuit.specs.Lent.{new_in, operands_in, Shaped}
 use Rattle.plain.specs.Plain.{new_bit}
 use Rattle.circuit.specs.declared.gate.Gate.{Gate}

@@ -1,7 +1,8 @@
 use Rattle.std.proofs.Common.{◌≡◌, ℕ, ◌/◌, ◌^◌, ◌<◌, ◌≤◌, Bool, false, length, get_or, subst, arith, rules}
-use Rattle.circuit.specs.Words.{word_at}
+use Rattle.labels.specs.Words.{word_at}
 use Rattle.circuit.proofs.Bounds.{each_below}
-use Rattle.plain.proofs.Numbers.{number_below, shifted_fits}
+use Rattle.plain.proofs.Numbers.{shifted_fits}
+use Rattle.labels.proofs.Numbers.{number_below}
 use Rattle.plain.proofs.rows.row_number.Goals as goal
 
 pub read-requires : goal.read-requires

@@ -1,6 +1,6 @@
 use Rattle.std.proofs.Common.{◌≡◌, false, get_or}
 use Rattle.labels.specs.Numbers.{number}
-use Rattle.circuit.specs.Words.{word_at}
+use Rattle.labels.specs.Words.{word_at}
 use Rattle.plain.proofs.rows.row_number.Given as goal
 
 abbrev pub invariant-loop-j : goal.invariant-loop-j

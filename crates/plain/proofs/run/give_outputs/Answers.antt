@@ -1,5 +1,5 @@
 use Rattle.std.proofs.Common.{arith}
-use Rattle.circuit.specs.Words.{word_at}
+use Rattle.labels.specs.Words.{word_at}
 use Rattle.circuit.proofs.Bounds.{each_below}
 use Rattle.plain.proofs.run.give_outputs.Goals as goal
 

@@ -1,6 +1,6 @@
 use Rattle.std.proofs.Common.{◌≡◌, ℕ, ◌<◌, false, get_or}
 use Rattle.labels.specs.Numbers.{digit}
-use Rattle.circuit.specs.Words.{word_at}
+use Rattle.labels.specs.Words.{word_at}
 use Rattle.plain.proofs.run.give_outputs.Given as goal
 
 abbrev pub invariant-loop-o : goal.invariant-loop-o

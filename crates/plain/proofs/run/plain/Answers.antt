@@ -1,5 +1,6 @@
 use Rattle.std.proofs.Common.{ℕ, length, ap, ◌∙◌, rules}
-use Rattle.circuit.specs.Words.{word_at, all_below}
+use Rattle.labels.specs.Words.{word_at}
+use Rattle.circuit.specs.Words.{all_below}
 use Rattle.circuit.specs.Lent.{parts_in}
 use Rattle.circuit.proofs.Circuits.{outputs_pass}
 use Rattle.plain.proofs.Runs.{evaluated}

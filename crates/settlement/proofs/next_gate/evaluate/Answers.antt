@@ -1,5 +1,5 @@
 use Rattle.std.proofs.Common.{ℕ, length, take, min, refl, ap, ◌∙◌}
-use Rattle.settlement.specs.State.{state_of}
+use Rattle.settlement.specs.State.{held_by}
 use Rattle.settlement.proofs.Lending.{part_same}
 use Rattle.settlement.proofs.Answering.{evaluate_accepted, evaluate_refused}
 use Rattle.settlement.proofs.next_gate.evaluate.Goals as goal
@@ -11,7 +11,7 @@ returns-in-Ok-clause-made g c = λ F garbler circuit shown count copied far.
     let read = part_same c.min-written.result c.args.lent.now.material.now (take c.min-written.result c.args.lent.now.material.now) refl in
     let few = c.min-written.ensures ∙ ap (λ (k : ℕ). min k (length c.args.lent.now.material.now)) far in
     evaluate_accepted g.L.Label.kind F _ circuit c.args.copy.now copied
-    (state_of garbler c.args.evaluator.now c.args.lent.now shown count (g.H.LabelHash.calls c.args.h.now)) _
+    (held_by garbler c.args.evaluator.now c.args.lent.now shown count (g.H.LabelHash.calls c.args.h.now)) _
     c.args.scratch c.min-scratch.result c.min-written.result c.min-scratch.ensures few
     _ _ c.in-Ok.ensures.accepted c.in-Ok.ensures.stepped (rw (a, b) refl) c.in-Ok.ensures.count (rw read refl)
 
@@ -24,6 +24,6 @@ returns-in-Err-clause-made g c = λ F garbler circuit shown count copied far.
     let read = part_same c.min-written.result c.args.lent.now.material.now (take c.min-written.result c.args.lent.now.material.now) refl in
     let few = c.min-written.ensures ∙ ap (λ (k : ℕ). min k (length c.args.lent.now.material.now)) far in
     evaluate_refused g.L.Label.kind F _ circuit c.args.copy.now copied
-    (state_of garbler c.args.evaluator.now c.args.lent.now shown count (g.H.LabelHash.calls c.args.h.now)) _
+    (held_by garbler c.args.evaluator.now c.args.lent.now shown count (g.H.LabelHash.calls c.args.h.now)) _
     c.args.scratch c.min-scratch.result c.min-written.result c.min-scratch.ensures few
     c.in-Err.why c.in-Err.ensures.refused (rw (side, wires, hash, scratch, read) refl)

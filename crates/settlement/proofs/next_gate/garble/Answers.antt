@@ -1,5 +1,5 @@
 use Rattle.std.proofs.Common.{refl}
-use Rattle.settlement.specs.State.{state_of}
+use Rattle.settlement.specs.State.{held_by}
 use Rattle.settlement.proofs.Lending.{part_same}
 use Rattle.settlement.proofs.Making.{garble_accepted, garble_refused}
 use Rattle.settlement.proofs.next_gate.garble.Goals as goal
@@ -10,7 +10,7 @@ returns-in-Ok-clause-made g c = λ E evaluator shown count.
     let b = c.written-before.ensures in
     let a = c.written.ensures in
     garble_accepted g.L.Label.kind _ E c.args.circuit.now
-    (state_of c.args.garbler.now evaluator c.args.lent.now shown (g.G.LabelHash.calls c.args.h.now) count)
+    (held_by c.args.garbler.now evaluator c.args.lent.now shown (g.G.LabelHash.calls c.args.h.now) count)
     c.args.scratch c.args.material c.min-scratch.result c.min-material.result c.min-scratch.ensures c.min-material.ensures
     _ _ _ _ _ c.in-Ok.ensures.accepted c.in-Ok.ensures.garbled (rw (a, b) refl) c.in-Ok.ensures.count (rw e refl)
 
@@ -22,6 +22,6 @@ returns-in-Err-clause-made g c = λ E evaluator shown count.
     let scratch = part_same c.min-scratch.result c.args.lent.now.scratch.now c.garble-written.new.scratch c.in-Err.ensures.scratch in
     let material = part_same c.min-material.result c.args.lent.now.material.now c.garble-written.new.material c.in-Err.ensures.material in
     garble_refused g.L.Label.kind _ E c.args.circuit.now
-    (state_of c.args.garbler.now evaluator c.args.lent.now shown (g.G.LabelHash.calls c.args.h.now) count)
+    (held_by c.args.garbler.now evaluator c.args.lent.now shown (g.G.LabelHash.calls c.args.h.now) count)
     c.args.scratch c.args.material c.min-scratch.result c.min-material.result c.min-scratch.ensures c.min-material.ensures
     _ c.in-Err.why c.in-Err.ensures.refused (rw (side, wires, hash, scratch, material) refl)

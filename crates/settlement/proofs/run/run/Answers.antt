@@ -1,6 +1,6 @@
 use Rattle.std.proofs.Common.{◌≡◌, ◌<◌, List, length, drop, refl, ap, ◌∙◌, arith}
 use Rattle.std.proofs.lemmas.List.{drop-set-lt}
-use Rattle.settlement.specs.State.{no_past, state_of}
+use Rattle.settlement.specs.State.{no_past, held_by}
 use Rattle.settlement.specs.Lines.{call_at}
 use Rattle.settlement.specs.declared.line.Line.{Line}
 use Rattle.settlement.proofs.Running.{followed_none, followed_more, step_with, sent_long, loans_then}
@@ -23,9 +23,9 @@ loop-k-preserved g c =
     let K = g.L.Label.kind in
     let F = g.G.LabelHash.means c.args.garbler_hash.now in
     let E = g.H.LabelHash.means c.args.evaluator_hash.now in
-    let first = state_of c.args.garbler.now c.args.evaluator.now c.args.lent.now no_past (g.G.LabelHash.calls c.args.garbler_hash.now) (g.H.LabelHash.calls c.args.evaluator_hash.now) in
-    let here = state_of c.loop-k.garbler c.loop-k.evaluator c.loop-k.lent c.loop-k.past (g.G.LabelHash.calls c.loop-k.garbler_hash) (g.H.LabelHash.calls c.loop-k.evaluator_hash) in
-    let new = state_of c.step-answer.new.garbler c.step-answer.new.evaluator c.step-answer.new.lent c.step-answer.new.past (g.G.LabelHash.calls c.step-answer.new.garbler_hash) (g.H.LabelHash.calls c.step-answer.new.evaluator_hash) in
+    let first = held_by c.args.garbler.now c.args.evaluator.now c.args.lent.now no_past (g.G.LabelHash.calls c.args.garbler_hash.now) (g.H.LabelHash.calls c.args.evaluator_hash.now) in
+    let here = held_by c.loop-k.garbler c.loop-k.evaluator c.loop-k.lent c.loop-k.past (g.G.LabelHash.calls c.loop-k.garbler_hash) (g.H.LabelHash.calls c.loop-k.evaluator_hash) in
+    let new = held_by c.step-answer.new.garbler c.step-answer.new.evaluator c.step-answer.new.lent c.step-answer.new.past (g.G.LabelHash.calls c.step-answer.new.garbler_hash) (g.H.LabelHash.calls c.step-answer.new.evaluator_hash) in
     let call = call_at c.args.calls.now c.loop-k.k in
     let F' = g.G.LabelHash.means c.loop-k.garbler_hash in
     let E' = g.H.LabelHash.means c.loop-k.evaluator_hash in

@@ -2,7 +2,7 @@ use Rattle.std.proofs.Common.{List, length, Some, None, refl, ap, arith}
 use Rattle.std.proofs.lemmas.Result.{err_from_is_err_and}
 use Rattle.circuit.proofs.Checks.{or_else_none}
 use Rattle.settlement.specs.State.{no_past}
-use Rattle.settlement.specs.Refused.{room_of}
+use Rattle.settlement.specs.Refused.{supply_of}
 use Rattle.settlement.proofs.Settling.{refused_first, refused_then, copy_passes, denied_later, ended}
 use Rattle.settlement.proofs.settle.settle.Goals as goal
 
@@ -37,6 +37,6 @@ returns-clause-settled g c =
     let opens = (or_else_none _ _ c.in_ok-tokens.ensures.accepted).0 in
     let count = g.H.LabelHash.calls c.args.evaluator_hash.now in
     ended g.L.Label.kind _ _ c.args.circuit.now c.args.seed.now c.args.calls.now _ _ _ _ c.run.result
-    (room_of (length c.args.calls.now) (length c.args.lines.now) (length c.args.lent.now.sent.now) (length c.args.copy.now)) _
+    (supply_of (length c.args.calls.now) (length c.args.lines.now) (length c.args.lent.now.sent.now) (length c.args.copy.now)) _
     c.in_ok-tokens.ensures.kept c.in_default.ensures.accepted opens c.in_default.ensures.sent refl refl (g.met.H.LabelHash.fits c.args.evaluator_hash.now)
     (c.in_ok-tokens.ensures.begun no_past count) c.run.ensures.followed

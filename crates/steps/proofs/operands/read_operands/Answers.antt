@@ -1,5 +1,5 @@
 use Rattle.std.proofs.Common.{◌/◌, length, arith}
-use Rattle.circuit.specs.Words.{word_at}
+use Rattle.labels.specs.Words.{word_at}
 use Rattle.circuit.proofs.Bounds.{each_below}
 use Rattle.tables.proofs.Filling.{there_first}
 use Rattle.tables.proofs.Packing.{listed_all}

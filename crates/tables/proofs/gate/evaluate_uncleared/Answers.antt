@@ -7,7 +7,8 @@ use Rattle.tables.specs.Table.{places, chosen, found, sum, taken}
 use Rattle.tables.proofs.Gating.{gate_meets}
 use Rattle.tables.proofs.Hot.{more_than, two_fit}
 use Rattle.tables.proofs.Masks.{found_of, chosen_ext, shifted}
-use Rattle.tables.proofs.Numbering.{two_pow, fits_eight}
+use Rattle.tables.proofs.Numbering.{fits_eight}
+use Rattle.labels.proofs.Numbers.{two_pow}
 use Rattle.tables.proofs.Packing.{listed_all}
 use Rattle.tables.proofs.Running.{ran_then}
 use Rattle.tables.proofs.gate.evaluate_uncleared.Goals as goal

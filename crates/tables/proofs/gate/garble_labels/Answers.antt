@@ -1,12 +1,13 @@
 use Rattle.std.proofs.Common.{◌≡◌, ℕ, ◌+◌, ◌-◌, ◌*◌, ◌^◌, ◌<◌, false, length, get_or, sym, refl, ap, ◌∙◌, arith}
 use Rattle.labels.specs.Kind.{times}
 use Rattle.labels.specs.Numbers.{bit}
+use Rattle.labels.specs.Words.{word_at}
 use Rattle.tables.specs.Level.{bases}
-use Rattle.tables.specs.Material.{row_word, row_bytes}
+use Rattle.tables.specs.Material.{row_bytes}
 use Rattle.tables.specs.Table.{places, colours, chosen, hot, turned, sum, given, mask_row}
 use Rattle.tables.proofs.Hot.{two_fit}
 use Rattle.tables.proofs.Mades.{mask_of, made_with, turned_of}
-use Rattle.tables.proofs.Numbering.{number_below}
+use Rattle.labels.proofs.Numbers.{number_below}
 use Rattle.tables.proofs.Running.{ran_then}
 use Rattle.tables.proofs.gate.garble_labels.Goals as goal
 
@@ -32,7 +33,7 @@ returns g c =
     let B = bases K Δ c.args.zeros.now in
     let n = length c.args.zeros.now in
     let V = places K c.garble_one_hot.new.v in
-    let row = row_word c.args.rows.now in
+    let row = word_at c.args.rows.now in
     let f : ℕ → ℕ = λ i. get_or c.mask_table.new.fs i 0 in
     let f₁ : G₁ ≡ F = c.garble_one_hot.ensures.ran.kept in
     let f₂ : G₂ ≡ F = c.pick_all.ensures.ran.kept ∙ f₁ in

@@ -3,7 +3,7 @@ use Rattle.std.proofs.lemmas.Nat.{one_shl}
 use Rattle.std.proofs.lemmas.List.{length-take}
 use Rattle.tables.specs.Gate.{drawn, material, zero_labels}
 use Rattle.material.specs.Size.{labels_of}
-use Rattle.tables.specs.Material.{row_word}
+use Rattle.labels.specs.Words.{word_at}
 use Rattle.tables.specs.Table.{places, made}
 use Rattle.tables.proofs.Gating.{material_by}
 use Rattle.tables.proofs.Hot.{two_fit}
@@ -20,7 +20,7 @@ returns g c =
     let gate = c.args.gate in
     let Δ = c.args.offset in
     let A = places K c.args.zeros.now in
-    let row = row_word c.args.rows.now in
+    let row = word_at c.args.rows.now in
     let n = length c.args.zeros.now in
     let m = length c.args.new.now in
     let s = c.low_bits-s.result in

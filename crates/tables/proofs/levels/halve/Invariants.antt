@@ -1,8 +1,9 @@
-use Rattle.tables.specs.Level.{Holds, Past}
+use Rattle.tables.specs.Level.{Holds}
+use Rattle.tables.proofs.Filling.{TailKept}
 use Rattle.tables.specs.Table.{places}
 use Rattle.tables.proofs.levels.halve.Given as goal
 
 abbrev pub invariant-loop-i : goal.invariant-loop-i
 invariant-loop-i g l =
     let K = g.L.Label.kind in
-    Holds K l.i (λ i. K.xor (places K l.initial.front i) (places K l.back i)) l.front × Past K l.i l.initial.front l.front
+    Holds K l.i (λ i. K.xor (places K l.initial.front i) (places K l.back i)) l.front × TailKept K l.i l.initial.front l.front

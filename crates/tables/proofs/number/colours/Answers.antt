@@ -1,7 +1,7 @@
 use Rattle.std.proofs.Common.{arith, pow_mono}
 use Rattle.std.proofs.lemmas.Nat.{one_shl}
 use Rattle.tables.specs.Table.{places}
-use Rattle.tables.proofs.Numbering.{number_below}
+use Rattle.labels.proofs.Numbers.{number_below}
 use Rattle.tables.proofs.number.colours.Goals as goal
 
 pub overflow_add-number : goal.overflow_add-number

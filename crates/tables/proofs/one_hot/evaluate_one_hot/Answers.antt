@@ -4,7 +4,7 @@ use Rattle.tables.specs.Material.{row_at, one_hot_rows}
 use Rattle.tables.proofs.Growing.{read_place}
 use Rattle.tables.proofs.Hot.{two_fit, next_fits, more_than, seen_none, seen_more, colours_more}
 use Rattle.tables.proofs.Masks.{shifted}
-use Rattle.tables.proofs.Numbering.{two_pow, number_below}
+use Rattle.labels.proofs.Numbers.{two_pow, number_below}
 use Rattle.tables.proofs.Parts.{part_at}
 use Rattle.tables.proofs.Running.{ran_none, ran_then}
 use Rattle.tables.proofs.one_hot.evaluate_one_hot.Goals as goal

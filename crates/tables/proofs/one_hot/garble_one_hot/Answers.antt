@@ -6,7 +6,7 @@ use Rattle.tables.specs.Table.{based, hot_row}
 use Rattle.tables.proofs.Growing.{read_place}
 use Rattle.tables.proofs.Hot.{two_fit, next_fits, hot_none, hot_more, row_more}
 use Rattle.tables.proofs.Masks.{shifted}
-use Rattle.tables.proofs.Numbering.{two_pow}
+use Rattle.labels.proofs.Numbers.{two_pow}
 use Rattle.tables.proofs.Parts.{part_at}
 use Rattle.tables.proofs.Running.{ran_none, ran_then}
 use Rattle.tables.proofs.one_hot.garble_one_hot.Goals as goal

@@ -1,7 +1,7 @@
 use Rattle.std.proofs.Common.{◌≡◌, ◌+◌, ◌^◌, suc, ap, ◌∙◌, add-one, arith, pow_pos, pow_mono, length-set}
 use Rattle.std.proofs.lemmas.Nat.{one_shl}
 use Rattle.tables.proofs.Masks.{shifted}
-use Rattle.tables.proofs.Numbering.{two_pow}
+use Rattle.labels.proofs.Numbers.{two_pow}
 use Rattle.tables.proofs.Mixing.{level_mix, mix_none, mix_more}
 use Rattle.tables.proofs.random.mix_levels.Goals as goal
 

@@ -6,7 +6,7 @@ use Rattle.tables.specs.Table.{based}
 use Rattle.tables.proofs.Givens.{numbered_more}
 use Rattle.tables.proofs.Growing.{read_place}
 use Rattle.tables.proofs.Hot.{next_fits}
-use Rattle.tables.proofs.Numbering.{two_pow}
+use Rattle.labels.proofs.Numbers.{two_pow}
 use Rattle.tables.proofs.Parts.{part_long, mid_long}
 use Rattle.tables.proofs.Running.{ran_then}
 use Rattle.tables.proofs.random.pick_all.Goals as goal

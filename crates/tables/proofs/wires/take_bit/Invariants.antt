@@ -1,5 +1,5 @@
 use Rattle.std.proofs.Common.{◌≡◌, ℕ, ◌+◌, ◌*◌, ◌<◌}
-use Rattle.tables.specs.Level.{Past}
+use Rattle.tables.proofs.Filling.{TailKept}
 use Rattle.tables.specs.Table.{places, sum}
 use Rattle.tables.proofs.wires.take_bit.Given as goal
 
@@ -9,4 +9,4 @@ invariant-loop-k g l =
     let old = places K l.initial.buckets in
     (l.all ≡ sum K l.k (λ k. old (l.a + (2 * k + 1))))
     × ((k : ℕ) → k < l.k → places K l.buckets (l.a + k) ≡ K.xor (old (l.a + 2 * k)) (old (l.a + (2 * k + 1))))
-    × Past K (l.a + l.k) l.initial.buckets l.buckets
+    × TailKept K (l.a + l.k) l.initial.buckets l.buckets

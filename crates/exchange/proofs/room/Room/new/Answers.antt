@@ -17,13 +17,15 @@ returns g c =
       accepted = c.requires.accepted;
       seed_is = c.in_ok-to_vec.ensures.items_if_clones_equal (λ x y e. e);
       calls_are = c.in_ok-calls.ensures ∙ (λ i. listed (calls_in (p i).sizes) (course (p i).sizes (material i) c.args.bits.now));
-      copy_long = search rules;
-      zeros_long = search rules;
-      labels_long = search rules;
-      sent_long = search rules;
-      scratch_long = search rules;
-      material_long = search rules;
-      colours_long = search rules;
-      outputs_long = search rules;
-      lines_long = search rules;
+      enough = record {
+        copy_long = search rules;
+        zeros_long = search rules;
+        labels_long = search rules;
+        sent_long = search rules;
+        scratch_long = search rules;
+        material_long = search rules;
+        colours_long = search rules;
+        outputs_long = search rules;
+        lines_long = search rules;
+      };
     }

@@ -1,4 +1,4 @@
-// The end of a settlement.
+// The end of a settlement: both sides are wiped.
 ghost use Rattle.std.specs.Prelude.{◌≡◌, not, length, None};
 ghost use Rattle.parties.specs.Refusing.{wipe_refusal};
 ghost use Rattle.parties.specs.Side.{unused};

@@ -5,7 +5,7 @@ use Rattle.circuit.specs.Header.{sizes_of, within, words_in}
 use Rattle.circuit.specs.declared.sizes.Sizes.{Sizes}
 use Rattle.listing.specs.Worksheet.{circuit_end}
 use Rattle.listing.proofs.Inputs.{input_short, input_size, input_length, input_passes, seed_count}
-use Rattle.listing.proofs.worksheet.cut_input.Goals as goal
+use Rattle.listing.proofs.input.cut_input.Goals as goal
 
 pub returns-in_err-sizes : goal.returns-in_err-sizes
 returns-in_err-sizes c =

@@ -1,4 +1,4 @@
--- What the laws of a circuit ask of it, and where its wires come from. Assumes nothing.
+-- What the proofs of the laws take from a circuit that passes, and where its wires come from. Assumes nothing.
 use Rattle.std.specs.Prelude.{◌≡◌, ℕ, ◌+◌, ◌<◌, true}
 use Rattle.circuit.specs.Forms.{known, reads, makes}
 use Rattle.circuit.specs.Parts.{Parts}

@@ -11,7 +11,8 @@ ghost use Rattle.std.specs.Mem.{type_size};
 ghost use Rattle.labels.specs.Words.{word_at};
 ghost use Rattle.tables.specs.Table.{places, colours as of_colours, hot, hot_row, mask_row, turned, made};
 
-use crate::levels::{evaluate_levels, garble_levels};
+use crate::evaluate_levels::evaluate_levels;
+use crate::garble_levels::garble_levels;
 use crate::number::colours;
 use crate::one_hot::{evaluate_one_hot, garble_one_hot};
 use crate::pack::{pack, unpack};

@@ -27,8 +27,7 @@ returns-clause-refused g c =
 
 pub returns-clause-settled : goal.returns-clause-settled
 returns-clause-settled g c =
-    on_ok_weaker c.settle.result (λ e.
-    (
+    on_ok_weaker c.settle.result (λ e. (
       c.settle.new.garbler_hash.count,
       c.settle.new.evaluator_hash.count,
       ended_from_none g.L.Label.kind g.F.LabelFunction.means c.args.circuit.now c.args.seed.now c.args.calls.now c.settle.new.lines c.args.garbler.now c.args.evaluator.now c.args.lent.now _ _ _ c.starting_at-garbler_hash.ensures c.starting_at-evaluator_hash.ensures e,
@@ -37,8 +36,7 @@ returns-clause-settled g c =
 
 pub returns-clause-denied : goal.returns-clause-denied
 returns-clause-denied g c =
-    IfErr-weaker c.settle.result _ _ (λ why e.
-    (
+    IfErr-weaker c.settle.result _ _ (λ why e. (
       c.settle.new.garbler_hash.count,
       c.settle.new.evaluator_hash.count,
       denied_from_none g.L.Label.kind g.F.LabelFunction.means c.args.circuit.now c.args.seed.now _ why c.args.garbler.now c.args.evaluator.now c.args.lent.now _ _ _ c.starting_at-garbler_hash.ensures c.starting_at-evaluator_hash.ensures e,

@@ -6,7 +6,7 @@ use Rattle.tables.proofs.Growing.{read_place}
 use Rattle.tables.proofs.Masks.{twice_next, next_row, rows_within, rows_fit, rows_counted, halved_front, taken_level, sum_onto, shifted}
 use Rattle.tables.proofs.Parts.{front_at, front_long}
 use Rattle.tables.proofs.Running.{ran_then}
-use Rattle.tables.proofs.levels.evaluate_levels.Goals as goal
+use Rattle.tables.proofs.evaluate_levels.evaluate_levels.Goals as goal
 
 pub slice_bounds-v-end : goal.slice_bounds-v-end
 slice_bounds-v-end g c =

@@ -8,7 +8,7 @@ use Rattle.tables.proofs.Growing.{read_place}
 use Rattle.tables.proofs.Masks.{level_twice, masked_part, rows_counted}
 use Rattle.tables.proofs.Parts.{part_at}
 use Rattle.tables.proofs.Running.{ran_then}
-use Rattle.tables.proofs.levels.evaluate_level.Goals as goal
+use Rattle.tables.proofs.evaluate_levels.evaluate_level.Goals as goal
 
 pub overflow_add-level : goal.overflow_add-level
 overflow_add-level g c =

@@ -3,7 +3,7 @@ use Rattle.tables.specs.Level.{Holds}
 use Rattle.tables.specs.Material.{row_at}
 use Rattle.tables.specs.Ran.{Ran}
 use Rattle.tables.specs.Table.{places, sum, halved, taken}
-use Rattle.tables.proofs.levels.evaluate_levels.Given as goal
+use Rattle.tables.proofs.evaluate_levels.evaluate_levels.Given as goal
 
 abbrev pub invariant-loop-d : goal.invariant-loop-d
 invariant-loop-d g l =

@@ -4,7 +4,7 @@ use Rattle.tables.proofs.Filling.{TailKept}
 use Rattle.tables.specs.Material.{row_bytes}
 use Rattle.tables.specs.Ran.{Ran}
 use Rattle.tables.specs.Table.{places, level}
-use Rattle.tables.proofs.levels.garble_level.Given as goal
+use Rattle.tables.proofs.garble_levels.garble_level.Given as goal
 
 abbrev pub invariant-loop-j : goal.invariant-loop-j
 invariant-loop-j g l =

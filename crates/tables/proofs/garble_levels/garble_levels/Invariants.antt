@@ -3,7 +3,7 @@ use Rattle.tables.specs.Level.{bases, Holds}
 use Rattle.tables.specs.Material.{row_bytes}
 use Rattle.tables.specs.Ran.{Ran}
 use Rattle.tables.specs.Table.{places, sum, halved, given as part, mask_row}
-use Rattle.tables.proofs.levels.garble_levels.Given as goal
+use Rattle.tables.proofs.garble_levels.garble_levels.Given as goal
 
 abbrev pub invariant-loop-d : goal.invariant-loop-d
 invariant-loop-d g l =

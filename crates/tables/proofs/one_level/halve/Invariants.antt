@@ -1,7 +1,7 @@
 use Rattle.tables.specs.Level.{Holds}
 use Rattle.tables.proofs.Filling.{TailKept}
 use Rattle.tables.specs.Table.{places}
-use Rattle.tables.proofs.levels.halve.Given as goal
+use Rattle.tables.proofs.one_level.halve.Given as goal
 
 abbrev pub invariant-loop-i : goal.invariant-loop-i
 invariant-loop-i g l =

@@ -9,7 +9,7 @@ use Rattle.tables.proofs.Growing.{read_place}
 use Rattle.tables.proofs.Masks.{next_row, rows_within, rows_fit, rows_counted, halved_front, sum_onto, shifted}
 use Rattle.tables.proofs.Parts.{part_at, front_at}
 use Rattle.tables.proofs.Running.{ran_then}
-use Rattle.tables.proofs.levels.garble_levels.Goals as goal
+use Rattle.tables.proofs.garble_levels.garble_levels.Goals as goal
 
 pub slice_bounds-garble_level-end : goal.slice_bounds-garble_level-end
 slice_bounds-garble_level-end g c =

@@ -5,7 +5,7 @@ use Rattle.tables.proofs.Filling.{TailKept}
 use Rattle.tables.specs.Material.{row_at}
 use Rattle.tables.specs.Ran.{Ran}
 use Rattle.tables.specs.Table.{places, masked}
-use Rattle.tables.proofs.levels.evaluate_level.Given as goal
+use Rattle.tables.proofs.evaluate_levels.evaluate_level.Given as goal
 
 abbrev pub invariant-loop-j : goal.invariant-loop-j
 invariant-loop-j g l =

@@ -4,7 +4,7 @@ use Rattle.tables.specs.Table.{places}
 use Rattle.tables.proofs.Filling.{holds_more, past_set}
 use Rattle.tables.proofs.Growing.{read_place}
 use Rattle.tables.proofs.Parts.{front_at}
-use Rattle.tables.proofs.levels.halve.Goals as goal
+use Rattle.tables.proofs.one_level.halve.Goals as goal
 
 pub loop-i-preserved : goal.loop-i-preserved
 loop-i-preserved g c =

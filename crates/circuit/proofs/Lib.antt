@@ -5,3 +5,4 @@ pub mod GateParts
 pub mod Checks
 pub mod Circuits
 pub mod Wholes
+mod United

@@ -11,7 +11,7 @@ use crate::arrays::Arrays;
 use crate::cut::stretch;
 use crate::forms::form_makes;
 use crate::refusal::Refusal;
-use crate::words::{word_at, words_below};
+use crate::words::{word_at, words_below, words_fit};
 
 // A gate, whose operands and rows are parts of the lent circuit. A table has n inputs and m outputs.
 #[derive(Clone, Copy)]
@@ -129,7 +129,7 @@ impl<'a> Gate<'a> {
     {
         match self {
             Gate::Xor { .. } | Gate::And { .. } => true,
-            Gate::Table { m, rows, .. } => words_below(rows, two_to(m)),
+            Gate::Table { m, rows, .. } => words_fit(rows, m),
         }
     }
 }

@@ -1,7 +1,9 @@
 // Sixteen-bit words in bytes, the lower byte first.
-ghost use Rattle.std.specs.Prelude.{◌≡◌, ◌+◌, ◌*◌, ◌/◌, ◌<◌, length};
+ghost use Rattle.std.specs.Prelude.{◌≡◌, ◌+◌, ◌*◌, ◌/◌, ◌^◌, ◌<◌, ◌≤◌, length};
 ghost use Rattle.labels.specs.Words.{word_at};
-ghost use Rattle.circuit.specs.Words.{all_below};
+ghost use Rattle.circuit.specs.Words.{all_below, united};
+
+use crate::gate::two_to;
 
 pub fn word(low: u8, high: u8) -> u16
     ensures { result ≡ low + 256 * high }
@@ -22,4 +24,24 @@ pub fn words_below(bytes: &[u8], bound: u32) -> bool
     ensures { result ≡ all_below (word_at bytes.now) (length bytes.now / 2) bound }
 {
     (0..bytes.len() / 2).all(|k| u32::from(word_at(bytes, k)) < bound)
+}
+
+// The bitwise or of all words.
+fn united(bytes: &[u8]) -> u16
+    ensures { result ≡ united (word_at bytes.now) (length bytes.now / 2) }
+{
+    let mut all = 0;
+    // By number, as `words_below`; the compiler takes many words at once.
+    for k in 0..bytes.len() / 2 {
+        all |= word_at(bytes, k);
+    }
+    all
+}
+
+// Whether every word is below 2^m: so it is where their bitwise or is.
+pub fn words_fit(bytes: &[u8], m: u16) -> bool
+    requires { m ≤ 16 }
+    ensures { result ≡ all_below (word_at bytes.now) (length bytes.now / 2) (2 ^ m) }
+{
+    u32::from(united(bytes)) < two_to(m)
 }

@@ -36,26 +36,3 @@ pub fn digest_labels<L: Label>(alloc: Global, labels: &[L]) -> Result<u64, Alloc
     }
     Ok(digest)
 }
-
-#[cfg(test)]
-mod tests {
-    use super::*;
-    use labels::paper::Paper;
-    use std::test::Fail;
-
-    // Published values of FNV-1a.
-    #[test]
-    fn published_digests(rt: HostRuntime) {
-        assert_eq!(rt; digest_bytes(b""), 0xCBF2_9CE4_8422_2325);
-        assert_eq!(rt; digest_bytes(b"a"), 0xAF63_DC4C_8601_EC8C);
-        assert_eq!(rt; digest_bytes(b"foobar"), 0x8594_4171_F739_67E8);
-    }
-
-    // The same bytes, as three labels: `fo`, `ob` and `ar`.
-    #[test]
-    fn digest_of_labels(rt: HostRuntime) -> Result<(), Fail> {
-        let labels = [0x6F66, 0x626F, 0x7261].map(|word| Paper { word });
-        assert_eq!(rt; digest_labels(rt.alloc(), &labels)?, 0x8594_4171_F739_67E8);
-        Ok(())
-    }
-}

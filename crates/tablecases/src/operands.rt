@@ -69,32 +69,3 @@ pub fn table_rows(alloc: Global, n: usize, m: usize) -> Result<Vec<u8>, AllocErr
     }
     Ok(rows)
 }
-
-#[cfg(test)]
-mod tests {
-    use super::*;
-    use hashes::paper::PaperHash;
-    use labels::paper::Paper;
-    use std::test::Fail;
-
-    #[test]
-    fn operands_with_memory(rt: HostRuntime) -> Result<(), Fail> {
-        let mut hash = PaperHash::starting_at(0);
-        let zeros = zero_labels(rt.alloc(), &mut hash, Paper { word: 0x0031 }, 2)?;
-        let want = [Paper { word: 0xFB00 }, Paper { word: 0x0001 }];
-        assert_eq!(rt; zeros.as_slice(), want.as_slice());
-        let labels = labels_of(rt.alloc(), &zeros, Paper { word: 0xF601 }, 2)?;
-        let want = [Paper { word: 0xFB00 }, Paper { word: 0xF600 }];
-        assert_eq!(rt; labels.as_slice(), want.as_slice());
-        Ok(())
-    }
-
-    #[test]
-    fn case_with_memory(rt: HostRuntime) -> Result<(), Fail> {
-        let seed: Paper = seed_of(rt.alloc(), 1, 2)?;
-        assert_eq!(rt; seed, Paper { word: 1002 });
-        let rows = table_rows(rt.alloc(), 1, 2)?;
-        assert_eq!(rt; rows.as_slice(), [3, 0, 2, 0].as_slice());
-        Ok(())
-    }
-}

@@ -8,7 +8,7 @@ use crate::record::Evaluator;
 use circuit::refusal::Refusal;
 use labels::kind::Label;
 use memory::outputs::write_outputs;
-use parties::state::{Call, in_turn};
+use parties::state::{EvaluatorCall, in_turn};
 use plain::run::all_bits;
 
 impl Evaluator {
@@ -25,7 +25,7 @@ impl Evaluator {
         ensures refused { IfErr result (λ why. decode_refusal self.now.progress.side circuit.now (length wires.now) colours.now (length outputs.old) ≡ Some why) }
         ensures same { OnErr result (outputs.new ≡ outputs.old) }
     {
-        let turn = in_turn(self.state(), Call::Decode);
+        let turn = in_turn(self.state(), EvaluatorCall::Decode);
         let list = self
             .progress
             .may_outputs(turn, circuit, wires.len(), colours.len())?;

@@ -6,7 +6,7 @@ ghost use Rattle.parties.specs.Refusing.{deliver_refusal};
 use crate::record::Evaluator;
 use circuit::refusal::Refusal;
 use labels::kind::Label;
-use parties::state::{Call, in_turn};
+use parties::state::{EvaluatorCall, in_turn};
 
 impl Evaluator {
     // Takes the label of an input.
@@ -24,7 +24,7 @@ impl Evaluator {
         ensures same { OnErr result (self.new ≡ self.old) }
         ensures wires { OnErr result (wires.new ≡ wires.old) }
     {
-        let turn = in_turn(self.state(), Call::Deliver);
+        let turn = in_turn(self.state(), EvaluatorCall::Deliver);
         self.progress
             .may_input(turn, circuit, wires.len(), input, 0)?;
         wires[input] = label;

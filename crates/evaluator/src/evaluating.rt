@@ -14,7 +14,7 @@ use circuit::refusal::Refusal;
 use hashes::hash::LabelHash;
 use labels::kind::Label;
 use parties::progress::Progress;
-use parties::state::{Call, in_turn};
+use parties::state::{EvaluatorCall, in_turn};
 use steps::evaluate::evaluate_gate;
 use wires::Wires;
 
@@ -62,7 +62,7 @@ impl Evaluator {
         ensures scratch { OnErr result (scratch.new ≡ scratch.old) }
         ensures hash { OnErr result (h.new ≡ h.old) }
     {
-        let turn = in_turn(self.state(), Call::Evaluate);
+        let turn = in_turn(self.state(), EvaluatorCall::Evaluate);
         let (passed, bits) = self
             .progress
             .may_step::<L>(turn, circuit, wires.len(), scratch.len(), material.len())?;

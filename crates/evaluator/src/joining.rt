@@ -9,7 +9,7 @@ use circuit::refusal::Refusal;
 use labels::kind::Label;
 use memory::start::join_wires;
 use parties::progress::Progress;
-use parties::state::{Call, in_turn};
+use parties::state::{EvaluatorCall, in_turn};
 use parties::turn::may_begin;
 
 impl Evaluator {
@@ -25,7 +25,7 @@ impl Evaluator {
         ensures same { OnErr result (self.new ≡ self.old) }
         ensures wires { OnErr result (wires.new ≡ wires.old) }
     {
-        let turn = in_turn(self.state(), Call::Join);
+        let turn = in_turn(self.state(), EvaluatorCall::Join);
         let passed = may_begin(turn, circuit, wires.len())?;
         join_wires(wires, passed.wires);
         *self = Evaluator {

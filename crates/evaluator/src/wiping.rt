@@ -3,13 +3,13 @@ ghost use Rattle.std.specs.Prelude.{◌≡◌, length, replicate, Some, None, On
 ghost use Rattle.parties.specs.Side.{unused};
 ghost use Rattle.parties.specs.Refusing.{wipe_refusal};
 ghost use Rattle.parties.specs.States.{state_of, allowed};
-ghost use Rattle.parties.specs.declared.state.Call.TheVariants.{Wipe};
+ghost use Rattle.parties.specs.declared.state.EvaluatorCall.TheVariants.{Wipe};
 
 use crate::record::{Evaluator, EvaluatorToken};
 use circuit::refusal::Refusal;
 use gates::clear::clear;
 use labels::kind::Label;
-use parties::state::{Call, in_turn};
+use parties::state::{EvaluatorCall, in_turn};
 
 impl Evaluator {
     // Zeroes the wire memory, forgets the marks, and ends the side; a denied call hands the token back.
@@ -26,7 +26,7 @@ impl Evaluator {
         ensures same { OnErr result (self.new ≡ self.old) }
         ensures wires { OnErr result (wires.new ≡ wires.old) }
     {
-        let turn = in_turn(self.state(), Call::Wipe);
+        let turn = in_turn(self.state(), EvaluatorCall::Wipe);
         if let Err(why) = self.progress.side.may_wipe(turn, wires.len()) {
             return Err((why, token));
         }

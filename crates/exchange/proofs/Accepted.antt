@@ -14,7 +14,7 @@ use Rattle.circuit.specs.declared.refusal.Refusal.TheVariants.{Turn, Memory, Mat
 use Rattle.wires.proofs.Made.{rises}
 use Rattle.parties.specs.declared.side.Side.{Side}
 use Rattle.parties.specs.declared.state.State.TheVariants.{Collecting, Evaluating, Finished}
-use Rattle.parties.specs.declared.state.Call.TheVariants.{Deliver, Evaluate, Decode}
+use Rattle.parties.specs.declared.state.EvaluatorCall.TheVariants.{Deliver, Evaluate, Decode}
 use Rattle.parties.specs.Marks.{is_marked, all_marked}
 use Rattle.parties.specs.Turns.{is_its, gates_left}
 use Rattle.parties.specs.States.{allowed}

@@ -5,7 +5,7 @@ ghost use Rattle.circuit.specs.Gates.{wires_in};
 ghost use Rattle.parties.specs.Side.{unused};
 ghost use Rattle.parties.specs.Refusing.{open_refusal, wipe_refusal};
 ghost use Rattle.parties.specs.States.{state_of, allowed};
-ghost use Rattle.parties.specs.declared.state.Call.TheVariants.{Wipe};
+ghost use Rattle.parties.specs.declared.state.EvaluatorCall.TheVariants.{Wipe};
 ghost use Rattle.memory.specs.Copy.{open_copy};
 ghost use Rattle.circuit.specs.declared.refusal.Refusal.{Refusal};
 ghost use Rattle.settlement.specs.State.{no_past, held_by};

@@ -14,7 +14,7 @@ use Rattle.circuit.specs.declared.refusal.Refusal.TheVariants.{Turn, Memory, Mat
 use Rattle.tables.specs.Table.{places}
 use Rattle.memory.specs.Seed.{blank}
 use Rattle.parties.specs.declared.side.Side.{Side}
-use Rattle.parties.specs.declared.state.Call.TheVariants.{Join, Deliver, Evaluate, Decode}
+use Rattle.parties.specs.declared.state.EvaluatorCall.TheVariants.{Join, Deliver, Evaluate, Decode}
 use Rattle.parties.specs.Marks.{is_marked}
 use Rattle.parties.specs.Turns.{is_its, gates_left}
 use Rattle.parties.specs.States.{state_of, allowed}

@@ -3,8 +3,8 @@ use Rattle.std.specs.Prelude.{Bool, true, false, cond}
 use Rattle.parties.specs.declared.side.Side.{Side}
 use Rattle.parties.specs.declared.state.State.{State}
 use Rattle.parties.specs.declared.state.State.TheVariants.{Collecting, Evaluating, Finished, Ended}
-use Rattle.parties.specs.declared.state.Call.{Call}
-use Rattle.parties.specs.declared.state.Call.TheVariants.{Join, Deliver, Evaluate, Decode, Wipe}
+use Rattle.parties.specs.declared.state.EvaluatorCall.{EvaluatorCall}
+use Rattle.parties.specs.declared.state.EvaluatorCall.TheVariants.{Join, Deliver, Evaluate, Decode, Wipe}
 use Rattle.parties.specs.Marks.{all_marked}
 use Rattle.parties.specs.Turns.{gates_left}
 
@@ -15,7 +15,7 @@ state_of s =
     Collecting)
 
 -- whether it is the call's turn
-abbrev pub allowed : State → Call → Bool
+abbrev pub allowed : State → EvaluatorCall → Bool
 allowed Collecting Join = false
 allowed Collecting Deliver = true
 allowed Collecting Evaluate = false

@@ -11,7 +11,7 @@ pub enum State {
 }
 
 #[derive(Clone, Copy, PartialEq, Eq, Debug)]
-pub enum Call {
+pub enum EvaluatorCall {
     Join,
     Deliver,
     Evaluate,
@@ -20,15 +20,15 @@ pub enum Call {
 }
 
 // Whether it is the call's turn.
-pub fn in_turn(state: State, call: Call) -> bool
+pub fn in_turn(state: State, call: EvaluatorCall) -> bool
     ensures { result ≡ allowed state call }
 {
     match (state, call) {
-        (State::Ended, Call::Join) => true,
+        (State::Ended, EvaluatorCall::Join) => true,
         (State::Ended, _) => false,
-        (_, Call::Deliver | Call::Wipe) => true,
-        (State::Evaluating, Call::Evaluate) => true,
-        (State::Finished, Call::Decode) => true,
+        (_, EvaluatorCall::Deliver | EvaluatorCall::Wipe) => true,
+        (State::Evaluating, EvaluatorCall::Evaluate) => true,
+        (State::Finished, EvaluatorCall::Decode) => true,
         _ => false,
     }
 }

@@ -10,7 +10,7 @@ use Rattle.circuit.specs.Material.{gate_bits, gate_bytes}
 use Rattle.circuit.specs.declared.refusal.Refusal.{Refusal}
 use Rattle.memory.specs.Copy.{open_copy}
 use Rattle.parties.specs.declared.side.Side.{Side}
-use Rattle.parties.specs.declared.state.Call.TheVariants.{Deliver as DeliverCall, Evaluate as EvaluateCall, Decode as DecodeCall}
+use Rattle.parties.specs.declared.state.EvaluatorCall.TheVariants.{Deliver as DeliverCall, Evaluate as EvaluateCall, Decode as DecodeCall}
 use Rattle.parties.specs.Marks.{is_marked}
 use Rattle.parties.specs.Turns.{gates_left}
 use Rattle.parties.specs.States.{state_of, allowed}

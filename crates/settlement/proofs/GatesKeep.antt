@@ -27,7 +27,7 @@ use Rattle.laws.proofs.Zeros.{zero_fresh}
 use Rattle.laws.proofs.Bits.{plain_fresh}
 use Rattle.laws.proofs.Sounds.{gate_sound}
 use Rattle.laws.proofs.Opening.{parts_open, labels_open}
-use Rattle.parties.specs.declared.state.Call.TheVariants.{Evaluate as EvaluateCall}
+use Rattle.parties.specs.declared.state.EvaluatorCall.TheVariants.{Evaluate as EvaluateCall}
 use Rattle.parties.specs.Marks.{all_marked}
 use Rattle.parties.specs.Side.{stepped}
 use Rattle.parties.specs.States.{allowed, state_of}

@@ -12,7 +12,7 @@ use Rattle.memory.specs.Copy.{open_copy}
 use Rattle.laws.proofs.Order.{made_zero, inputs_within}
 use Rattle.laws.proofs.Bits.{plain_input}
 use Rattle.laws.proofs.Opening.{parts_open}
-use Rattle.parties.specs.declared.state.Call.TheVariants.{Deliver as DeliverCall}
+use Rattle.parties.specs.declared.state.EvaluatorCall.TheVariants.{Deliver as DeliverCall}
 use Rattle.parties.specs.Marks.{is_marked, all_marked}
 use Rattle.parties.specs.Side.{marked}
 use Rattle.parties.specs.States.{allowed, state_of}

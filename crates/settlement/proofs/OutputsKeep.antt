@@ -17,7 +17,7 @@ use Rattle.memory.specs.Copy.{open_copy}
 use Rattle.parties.specs.Marks.{all_marked}
 use Rattle.parties.specs.States.{allowed, state_of}
 use Rattle.parties.specs.Refusing.{outputs_refusal}
-use Rattle.parties.specs.declared.state.Call.TheVariants.{Decode as DecodeCall}
+use Rattle.parties.specs.declared.state.EvaluatorCall.TheVariants.{Decode as DecodeCall}
 use Rattle.memory.specs.Outputs.{colour_at, colours_of}
 use Rattle.laws.proofs.Order.{made_up}
 use Rattle.parties.specs.Turns.{gates_left}

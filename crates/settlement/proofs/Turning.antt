@@ -1,7 +1,7 @@
 -- Whose turn it is, from the evaluator's state. Assumes nothing.
 use Rattle.std.proofs.Common.{◌≡◌, ℕ, Bool, true, false, cond, not, ◌||◌, refl, sym, arith}
 use Rattle.parties.specs.declared.state.State.TheVariants.{Collecting, Evaluating, Finished, Ended}
-use Rattle.parties.specs.declared.state.Call.TheVariants.{Evaluate as EvaluateCall, Decode as DecodeCall}
+use Rattle.parties.specs.declared.state.EvaluatorCall.TheVariants.{Evaluate as EvaluateCall, Decode as DecodeCall}
 use Rattle.parties.specs.States.{allowed}
 
 pub true_false : {X : Type 0} (b : Bool) → b ≡ true → b ≡ false → X

@@ -23,7 +23,7 @@ use Rattle.circuit.specs.Words.{all_below}
 use Rattle.circuit.specs.declared.refusal.Refusal.TheVariants.{Memory, Bit}
 use Rattle.circuit.proofs.Checks.{or_else_none}
 use Rattle.parties.specs.States.{allowed, state_of}
-use Rattle.parties.specs.declared.state.Call.TheVariants.{Decode as DecodeCall}
+use Rattle.parties.specs.declared.state.EvaluatorCall.TheVariants.{Decode as DecodeCall}
 use Rattle.parties.specs.Refusing.{outputs_refusal}
 use Rattle.settlement.proofs.Circuits.{outputs_made}
 use Rattle.settlement.proofs.Facts.{input_free, outputs_free, two_passed, not_false}

@@ -7,7 +7,7 @@ use Rattle.circuit.specs.Gates.{wires_in}
 use Rattle.circuit.specs.Parts.{parts_of}
 use Rattle.memory.specs.Copy.{open_copy}
 use Rattle.parties.specs.declared.side.Side.{Side}
-use Rattle.parties.specs.declared.state.Call.TheVariants.{Wipe}
+use Rattle.parties.specs.declared.state.EvaluatorCall.TheVariants.{Wipe}
 use Rattle.parties.specs.declared.state.State.TheVariants.{Collecting, Evaluating, Finished}
 use Rattle.parties.specs.Refusing.{wipe_refusal}
 use Rattle.parties.specs.States.{state_of, allowed}

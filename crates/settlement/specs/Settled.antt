@@ -4,7 +4,7 @@ use Rattle.labels.specs.Kind.{Kind}
 use Rattle.hashes.specs.Count.{counted}
 use Rattle.circuit.specs.Parts.{parts_of}
 use Rattle.memory.specs.Copy.{open_copy}
-use Rattle.parties.specs.declared.state.Call.TheVariants.{Wipe}
+use Rattle.parties.specs.declared.state.EvaluatorCall.TheVariants.{Wipe}
 use Rattle.parties.specs.States.{state_of, allowed}
 use Rattle.parties.specs.Refusing.{wipe_refusal}
 use Rattle.garbler.specs.Garbling.{Opened}

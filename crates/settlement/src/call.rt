@@ -1,6 +1,6 @@
 // The calls of a settlement, each with the lengths of what it is lent.
 
-#[derive(Clone, Copy, PartialEq, Eq, Debug)]
+#[derive(Clone, Copy)]
 pub enum Call {
     Garble { scratch: usize, material: usize },
     Encode { input: usize, bit: u8 },

@@ -1,6 +1,6 @@
 // What went from one side to the other so far.
 
-#[derive(Clone, Copy, PartialEq, Eq, Debug)]
+#[derive(Clone, Copy)]
 pub struct Past {
     // How many colours were shown, once some were.
     pub shown: Option<usize>,

@@ -2,7 +2,7 @@
 ghost use Rattle.std.specs.Prelude.{◌≡◌, not, length, None};
 ghost use Rattle.parties.specs.Refusing.{wipe_refusal};
 ghost use Rattle.parties.specs.States.{state_of, allowed};
-ghost use Rattle.parties.specs.declared.state.Call.TheVariants.{Wipe};
+ghost use Rattle.parties.specs.declared.state.EvaluatorCall.TheVariants.{Wipe};
 
 use crate::parts::Parts;
 use crate::room::Room;

@@ -1,8 +1,8 @@
 // The calls of the input.
 
-use crate::words::Words;
 use anyhow::bail;
 use settlement::call::Call;
+use words::Words;
 
 // A call from its words.
 fn call_of(words: &mut Words) -> anyhow::Result<Call> {

@@ -1,4 +1,4 @@
-// A settlement as text: reads its parts and its calls from standard input, and prints what came of each.
+// Settlements as text: reads the parts and the calls of each from standard input, and prints what came of each call.
 #![tactic(auto)]
 
 mod calls;
@@ -6,7 +6,6 @@ mod parts;
 mod room;
 mod running;
 mod settling;
-mod words;
 mod writing;
 
 use parts::Parts;
@@ -16,9 +15,14 @@ use std::io;
 fn run(rt: &HostRuntime) -> anyhow::Result<()> {
     let heap = rt.alloc();
     let input = io::read_to_string(heap, rt.stdin())?;
-    let parts = Parts::read(heap, input.as_str())?;
-    let text = transcript(heap, &parts)?;
-    rt.print(text.as_str())?;
+    let settlements = Parts::read_all(heap, input.as_str())?;
+    for (k, parts) in settlements.iter().enumerate() {
+        if k > 0 {
+            rt.print("\n")?;
+        }
+        let text = transcript(heap, parts)?;
+        rt.print(text.as_str())?;
+    }
     Ok(())
 }
 

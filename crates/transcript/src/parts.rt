@@ -1,11 +1,11 @@
 // The input: the parts of a settlement, a line each, and a line for each of its calls.
 
 use crate::calls::read_call;
-use crate::words::Words;
 use anyhow::{Context, bail, ensure};
 use settlement::call::Call;
 use std::alloc::Global;
 use std::str::Lines;
+use words::Words;
 
 // The longest wire memory or material memory that is made.
 const MOST: usize = 1 << 20;
@@ -106,5 +106,14 @@ impl Parts {
             counts: read_counts(&mut lines)?,
             calls: read_calls(heap, lines)?,
         })
+    }
+
+    // The settlements of an input, an empty line between two.
+    pub fn read_all(heap: Global, input: &str) -> anyhow::Result<Vec<Parts>> {
+        let mut all = Vec::new(heap);
+        for part in input.split("\n\n") {
+            all.push(Parts::read(heap, part)?)?;
+        }
+        Ok(all)
     }
 }

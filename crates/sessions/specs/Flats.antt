@@ -5,7 +5,7 @@ use Rattle.std.specs.Int.Bits.{xor_assoc, xor_zero_r, xor_self}
 use Rattle.std.proofs.lemmas.Nat.{mod_below, pow_pos, xor_comm}
 use Rattle.labels.specs.Kind.{Kind}
 use Rattle.labels.specs.Words.{odd, odd_xor}
-use Rattle.party_tests.specs.declared.flat.Flat.{Flat}
+use Rattle.sessions.specs.declared.flat.Flat.{Flat}
 
 abbrev pub of_byte : ℕ → Flat
 of_byte n = record { byte = n }

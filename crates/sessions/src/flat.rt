@@ -1,5 +1,5 @@
 // A label kind of one byte whose raising does nothing, so that an offset may lack its colour.
-ghost use Rattle.party_tests.specs.Flats.{flat};
+ghost use Rattle.sessions.specs.Flats.{flat};
 
 use hashes::counted::Counted;
 use hashes::function::LabelFunction;

@@ -1,4 +1,5 @@
-// A line of the input: its name and what follows it, word by word.
+// A line of a program's input: its name and what follows it, word by word.
+#![tactic(auto)]
 
 use anyhow::{Context, ensure};
 use std::str::SplitWhitespace;

@@ -11,18 +11,8 @@ use hashes::sha_hash::ShaFunction;
 use labels::kind::Label;
 use labels::long::Long;
 use labels::paper::Paper;
-use settlement::line::{Answer, Line};
+use settlement::line::Line;
 use std::alloc::{AllocError, Global};
-
-// A line for each call, none of them made yet.
-fn no_lines<L: Label>(heap: Global, parts: &Parts) -> Result<Vec<Line<L>>, AllocError> {
-    let unmade = Line {
-        answer: Answer::NotMade,
-        garbler_count: 0,
-        evaluator_count: 0,
-    };
-    vec![in heap; unmade; parts.calls.len()]
-}
 
 // The text of a settlement that was run.
 fn text_of<L: Label>(
@@ -47,7 +37,7 @@ fn transcript_of<L: Label, F: LabelFunction<L>>(
 ) -> Result<String, AllocError> {
     let mut first: Room<L> = Room::new(heap, parts)?;
     let mut room: Room<L> = Room::new(heap, parts)?;
-    let mut lines: Vec<Line<L>> = no_lines(heap, parts)?;
+    let mut lines: Vec<Line<L>> = vec![in heap; Line::unmade(); parts.calls.len()]?;
     let calls = parts.calls.as_slice();
     let opening = match settled::<L, F>(parts, &mut first, &calls[..0], &mut lines[..0]) {
         Ok(counts) => counts,

@@ -16,7 +16,7 @@ use Rattle.circuit.specs.declared.sizes.Checked.{Checked}
 abbrev pub most_wires : ℕ
 most_wires = 1024
 
--- the sizes, of a circuit that should be so long
+-- under 10 bytes, a size outside its limits, or another length than this one
 abbrev pub length_refusal : List ℕ → ℕ → Option Refusal
 length_refusal bytes long =
     first_of ((nat_lt (length bytes) 10, Short)

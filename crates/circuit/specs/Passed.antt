@@ -4,7 +4,7 @@ use Rattle.circuit.specs.Check.{circuit_refusal, most_wires}
 use Rattle.circuit.specs.Gates.{wires_in}
 use Rattle.circuit.specs.Parts.{Parts, Whole, parts_of}
 
--- no refusal, the arrays of these bytes, each whole, and as many wires
+-- no refusal, the arrays of these bytes, each whole, as many wires, and limits that calls ask for
 pub record Passed (bytes : List ℕ) (c : Parts) (wires : ℕ) : Type 0 where
   pub passes : circuit_refusal bytes ≡ None
   pub parts : c ≡ parts_of bytes

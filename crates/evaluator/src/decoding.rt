@@ -12,7 +12,7 @@ use parties::state::{EvaluatorCall, in_turn};
 use plain::run::all_bits;
 
 impl Evaluator {
-    // Writes each output's bit: its label's colour ⊕ that of its zero label.
+    // Writes each output's bit: its label's colour ⊕ the byte that came for it.
     pub fn decode<L: Label>(
         &self,
         circuit: &[u8],

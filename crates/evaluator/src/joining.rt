@@ -13,7 +13,7 @@ use parties::state::{EvaluatorCall, in_turn};
 use parties::turn::may_begin;
 
 impl Evaluator {
-    // Begins with a circuit, its row words zero or not: every wire is zero.
+    // Begins with a circuit, its row words zero or not: every wire up to the last is zero.
     pub fn join<L: Label>(
         &mut self,
         circuit: &[u8],

@@ -7,7 +7,7 @@ use circuit::sizes::Sizes;
 use settlement::call::Call;
 use std::alloc::{AllocError, Global};
 
-// Call k: every input is encoded and delivered, every gate garbled and evaluated, the outputs are decoded, and each is certified.
+// Call k: inputs are encoded, then delivered, gates garbled, then evaluated, colours shown, outputs decoded, then certified.
 #[tactic(auto, unfolding(crate::specs::Course::by_turn))]
 fn call_at(s: Sizes, material: usize, bits: &[u8], k: usize) -> Call
     requires { length bits.now ≡ s.inputs }

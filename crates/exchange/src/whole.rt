@@ -25,7 +25,8 @@ use settlement::lent::Lent;
 use settlement::line::Line;
 use settlement::settle::settle;
 
-// Settles under the function F, each side with a new hash of its own; hands out both tokens. All that `settle` promises is said again.
+// Settles under the function F, each side with a new hash of its own; hands out both tokens.
+// What `settle` promises of a settlement is said again, but for the loans and the lines past the last call.
 // Where the settlement is planned to be whole, every call is accepted, and all that both sides then hold is given.
 pub fn run<L: Label, F: LabelFunction<L>>(
     circuit: &[u8],

@@ -1,4 +1,4 @@
--- Whether a circuit handed in is the side's own. Assumes nothing.
+-- Whether a circuit handed in is the side's own, and whether gates are left. Assumes nothing.
 use Rattle.std.specs.Prelude.{◌≡◌, ℕ, Bool, ◌&&◌, ◌==◌, nat_lt}
 use Rattle.circuit.specs.Parts.{Parts}
 use Rattle.circuit.specs.Gates.{made_before, wires_in}

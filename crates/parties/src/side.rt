@@ -6,7 +6,7 @@ use circuit::sizes::Sizes;
 
 #[derive(Clone, Copy)]
 pub struct Side {
-    // It has not begun, or is wiped. A flag, since what a side's record keeps is laid down, and this flag is among it.
+    // It has not begun, or is wiped. A flag, and no Option of the rest: whether it has ended is among what a side keeps.
     pub ended: bool,
     pub sizes: Sizes,
     // All wires of the circuit.

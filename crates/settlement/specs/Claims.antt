@@ -100,7 +100,7 @@ module _ {L : Type 0} (K : Kind L) (r : Settlement L) where
     pub garbler_count : (r.at k).garbler_count ≡ counted r.garbler_came (garbler_sum r k)
     pub evaluator_count : (r.at k).evaluator_count ≡ counted r.evaluator_came (evaluator_sum r k)
 
-  -- of line k, where call k was made
+  -- of line k, and of what call k leaves
   pub record LineClaims (k : ℕ) : Type 0 where
     -- encode answers the label of its bit
     pub encodes : (input bit : ℕ) (l : L) → call_at r.calls k ≡ Encode input bit → (line_at r.lines k).answer ≡ Encoded l → l ≡ label_of input (bit == 1)

@@ -19,7 +19,7 @@ pub fn operand<L: Label>(wires: &Wires<L>, operands: &[u8], j: usize) -> L
     wires.read(word_at(operands, j))
 }
 
-// Eight labels take less memory than the lent ones do.
+// Eight labels fit in memory, since as many are lent: a local array of labels asks for it.
 pub fn eight_fit<L: Label>(lent: &[L])
     requires { 8 ≤ length lent.now }
     ensures { 8 * memory_of L.row < 2 ^ 63 }

@@ -61,7 +61,7 @@ fn garble_labels<L: Label, H: LabelHash<L>>(
     garble_levels(h, gate, offset, zeros, &nums, v, new, material);
 }
 
-// The garbler's step, but for the clearing of the scratch; the same arguments.
+// The garbler's step, but for the clearing of the scratch. The arguments are those of `garble`.
 fn garble_uncleared<L: Label, H: LabelHash<L>>(
     h: &mut H,
     gate: u32,

@@ -11,7 +11,7 @@ use gates::scale::times;
 use labels::kind::Label;
 use std::mem::size_of_val;
 
-// So many labels fit in memory, since more of them are there: local labels ask for it.
+// 64 labels fit in memory, since 128 are lent: a local array of labels asks for it.
 pub fn local_labels_fit<L: Label>(labels: &[L])
     requires { 128 ≤ length labels.now }
     ensures { 64 * type_size L.row < 2 ^ 63 }

@@ -1,5 +1,5 @@
 -- A gate's form: 0 is XOR, 1 is AND, and 256 n + m is a table of n inputs and m outputs. Assumes nothing.
-use Rattle.std.specs.Prelude.{ℕ, ◌+◌, ◌/◌, ◌%◌, Bool, cond, ◌&&◌, ◌||◌, nat_le}
+use Rattle.std.specs.Prelude.{ℕ, ◌+◌, ◌/◌, ◌%◌, Bool, cond, ◌&&◌, ◌||◌, nat_le, ◌==◌}
 
 -- of a table
 abbrev pub fan_in : ℕ → ℕ
@@ -24,3 +24,7 @@ makes form = cond (nat_le form 1) 1 (fan_out form)
 -- as many operand words: a table has the place of its first row behind its wires
 abbrev pub operand_words : ℕ → ℕ
 operand_words form = cond (nat_le form 1) 2 (fan_in form + 1)
+
+-- what a gate has by its form: XOR, AND or a table
+abbrev pub by_form : {X : Type 0} → ℕ → X → X → X → X
+by_form form xor and table = cond (form == 0) xor (cond (form == 1) and table)

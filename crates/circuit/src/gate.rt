@@ -11,7 +11,7 @@ use crate::arrays::Arrays;
 use crate::cut::stretch;
 use crate::forms::form_makes;
 use crate::refusal::Refusal;
-use crate::words::{word_at, words_below, words_fit};
+use crate::words::{two_to, word_at, words_below, words_fit};
 
 // A gate, whose operands and rows are parts of the lent circuit. A table has n inputs and m outputs.
 #[derive(Clone, Copy)]
@@ -28,15 +28,6 @@ pub enum Gate<'a> {
         operands: &'a [u8],
         rows: &'a [u8],
     },
-}
-
-// 2^n
-pub fn two_to(n: u16) -> u32
-    requires { n ≤ 16 }
-    ensures power { result ≡ 2 ^ n }
-    ensures few { result ≤ 65536 }
-{
-    1 << n
 }
 
 // Whether a form is a table's.

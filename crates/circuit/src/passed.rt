@@ -1,9 +1,8 @@
 // A circuit that passed: its arrays, and how many wires it has.
-ghost use Rattle.std.specs.Prelude.{◌≡◌, ◌*◌, ◌^◌, ◌<◌, ◌≤◌, true, None};
-ghost use Rattle.circuit.specs.Words.{all_below};
-ghost use Rattle.circuit.specs.Gates.{form_of, output_of, made_before, wires_in};
+ghost use Rattle.std.specs.Prelude.{◌≡◌, ◌*◌, ◌^◌, ◌<◌, ◌≤◌, None};
+ghost use Rattle.circuit.specs.Gates.{form_of, made_before, wires_in};
 ghost use Rattle.circuit.specs.Material.{gate_bits};
-ghost use Rattle.circuit.specs.Check.{gates_refusal, most_wires, totals};
+ghost use Rattle.circuit.specs.Check.{gates_refusal, totals};
 ghost use Rattle.circuit.specs.Lent.{parts_in, GateAt};
 
 use crate::arrays::Arrays;

@@ -3,8 +3,6 @@ ghost use Rattle.std.specs.Prelude.{◌≡◌, ◌+◌, ◌*◌, ◌/◌, ◌^�
 ghost use Rattle.labels.specs.Words.{word_at};
 ghost use Rattle.circuit.specs.Words.{all_below, united};
 
-use crate::gate::two_to;
-
 pub fn word(low: u8, high: u8) -> u16
     ensures { result ≡ low + 256 * high }
 {
@@ -24,6 +22,15 @@ pub fn words_below(bytes: &[u8], bound: u32) -> bool
     ensures { result ≡ all_below (word_at bytes.now) (length bytes.now / 2) bound }
 {
     (0..bytes.len() / 2).all(|k| u32::from(word_at(bytes, k)) < bound)
+}
+
+// 2^n
+pub fn two_to(n: u16) -> u32
+    requires { n ≤ 16 }
+    ensures power { result ≡ 2 ^ n }
+    ensures few { result ≤ 65536 }
+{
+    1 << n
 }
 
 // The bitwise or of all words.

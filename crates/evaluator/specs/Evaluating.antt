@@ -8,7 +8,7 @@ use Rattle.circuit.specs.Gates.{form_of, wires_in}
 use Rattle.circuit.specs.Material.{gate_bytes}
 use Rattle.gates.specs.Bytes.{bytes_at}
 use Rattle.steps.specs.Gate.{new_labels}
-use Rattle.tables.specs.Table.{places}
+use Rattle.labels.specs.Lists.{places}
 use Rattle.parties.specs.declared.side.Side.{Side}
 use Rattle.parties.specs.Side.{started, stepped}
 

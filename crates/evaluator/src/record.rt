@@ -25,7 +25,7 @@ impl Evaluator {
     }
 
     // The bytes of the material that it has read.
-    pub fn read(&self) -> usize
+    pub fn bytes_read(&self) -> usize
         ensures { result ≡ self.now.progress.side.bytes }
     {
         self.progress.side.bytes

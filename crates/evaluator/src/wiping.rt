@@ -1,9 +1,7 @@
 // The end of a side.
 ghost use Rattle.std.specs.Prelude.{◌≡◌, length, replicate, Some, None, OnOk, OnErr, IfErr};
 ghost use Rattle.parties.specs.Side.{unused};
-ghost use Rattle.parties.specs.Refusing.{wipe_refusal};
-ghost use Rattle.parties.specs.States.{state_of, allowed};
-ghost use Rattle.parties.specs.declared.state.EvaluatorCall.TheVariants.{Wipe};
+ghost use Rattle.parties.specs.Refusing.{evaluator_wipe_refusal};
 
 use crate::record::{Evaluator, EvaluatorToken};
 use circuit::refusal::Refusal;
@@ -19,10 +17,10 @@ impl Evaluator {
         token: EvaluatorToken,
         wires: &mut [L],
     ) -> Result<(), (Refusal, EvaluatorToken)>
-        ensures accepted { OnOk result (wipe_refusal self.old.progress.side (allowed (state_of self.old.progress.side) Wipe) (length wires.old) ≡ None) }
+        ensures accepted { OnOk result (evaluator_wipe_refusal self.old.progress.side (length wires.old) ≡ None) }
         ensures ended { OnOk result (self.new.progress.side ≡ unused) }
         ensures cleared { OnOk result (wires.new ≡ replicate (length wires.old) L.kind.zero) }
-        ensures refused { IfErr result (λ e. wipe_refusal self.old.progress.side (allowed (state_of self.old.progress.side) Wipe) (length wires.old) ≡ Some e.0) }
+        ensures refused { IfErr result (λ e. evaluator_wipe_refusal self.old.progress.side (length wires.old) ≡ Some e.0) }
         ensures same { OnErr result (self.new ≡ self.old) }
         ensures wires { OnErr result (wires.new ≡ wires.old) }
     {

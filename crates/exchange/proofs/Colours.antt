@@ -5,7 +5,7 @@ use Rattle.labels.specs.Words.{word_at}
 use Rattle.circuit.specs.Words.{all_below}
 use Rattle.circuit.proofs.Bounds.{below_all}
 use Rattle.memory.specs.Outputs.{colour_at, colours_of}
-use Rattle.tables.specs.Table.{places}
+use Rattle.labels.specs.Lists.{places}
 use Rattle.settlement.proofs.AlikeBits.{digit_low}
 use Rattle.tables.proofs.Packing.{length_listed, get_or_listed}
 

@@ -14,7 +14,7 @@ use Rattle.circuit.specs.Check.{circuit_refusal, bytes_in}
 use Rattle.plain.specs.Plain.{bit_in, plain_bit}
 use Rattle.steps.specs.Gate.{garble_calls, evaluate_calls}
 use Rattle.steps.specs.Whole.{zero_label, input_label, label, material_before}
-use Rattle.tables.specs.Table.{places}
+use Rattle.labels.specs.Lists.{places}
 use Rattle.memory.specs.Copy.{open_copy}
 use Rattle.laws.proofs.Ordered.{Ordered}
 use Rattle.laws.proofs.Order.{ordered_check}

@@ -17,7 +17,7 @@ use Rattle.laws.proofs.Opening.{passes_open}
 use Rattle.tables.proofs.Packing.{length_listed, get_or_listed}
 use Rattle.parties.specs.declared.side.Side.{Side}
 use Rattle.parties.specs.Side.{unused}
-use Rattle.tables.specs.Table.{places}
+use Rattle.labels.specs.Lists.{places}
 use Rattle.settlement.specs.declared.lent.Lent.{Lent}
 use Rattle.parties.specs.Refusing.{open_refusal, join_refusal}
 use Rattle.settlement.specs.State.{State}

@@ -9,7 +9,7 @@ use Rattle.circuit.specs.Gates.{form_of, output_of, wires_in}
 use Rattle.circuit.specs.Refusals.{first_of, or_else}
 use Rattle.circuit.specs.declared.refusal.Refusal.{Refusal}
 use Rattle.circuit.specs.declared.refusal.Refusal.TheVariants.{Foreign}
-use Rattle.tables.specs.Table.{places}
+use Rattle.labels.specs.Lists.{places}
 use Rattle.circuit.specs.Material.{gate_bits, gate_bytes}
 use Rattle.circuit.specs.Check.{circuit_refusal, bytes_in}
 use Rattle.steps.specs.Gate.{garble_calls, evaluate_calls}

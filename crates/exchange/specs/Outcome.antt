@@ -6,7 +6,7 @@ use Rattle.circuit.specs.Parts.{Parts}
 use Rattle.circuit.specs.Gates.{output_of, wires_in}
 use Rattle.plain.specs.Plain.{bit_in, plain_bit}
 use Rattle.steps.specs.Whole.{zero_label, label, material_before}
-use Rattle.tables.specs.Table.{places}
+use Rattle.labels.specs.Lists.{places}
 use Rattle.settlement.specs.Lines.{line_at}
 use Rattle.settlement.specs.declared.lent.Lent.{Lent}
 use Rattle.settlement.specs.declared.line.Line.{Line}

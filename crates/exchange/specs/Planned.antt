@@ -4,8 +4,8 @@ use Rattle.labels.specs.Kind.{Kind}
 use Rattle.circuit.specs.Parts.{Parts, parts_of}
 use Rattle.circuit.specs.Gates.{wires_in}
 use Rattle.circuit.specs.Check.{bytes_in}
-use Rattle.plain.specs.Plain.{plain_refusal}
-use Rattle.tables.specs.Material.{listed}
+use Rattle.plain.specs.Plain.{bits_refusal}
+use Rattle.labels.specs.Lists.{listed}
 use Rattle.parties.specs.declared.side.Side.{Side}
 use Rattle.parties.specs.Side.{unused}
 use Rattle.parties.specs.Refusing.{open_refusal}
@@ -20,7 +20,7 @@ use Rattle.exchange.specs.Enough.{Enough}
 -- the first refusal of a whole settlement: that of a plain evaluation, and then that of opening, with memory enough
 abbrev pub whole_refusal : {L : Type 0} → Kind L → (L → ℕ → L) → List ℕ → List ℕ → List ℕ → Option Refusal
 whole_refusal K F bytes seed bits =
-    or_else (plain_refusal bytes bits (wires_in (parts_of bytes)) (parts_of bytes).sizes.outputs)
+    or_else (bits_refusal bytes bits)
     (open_refusal unused bytes K F (wires_in (parts_of bytes)) seed)
 
 -- the calls of a whole settlement
@@ -30,6 +30,6 @@ calls_of K c bits = listed (calls_in c.sizes) (course c.sizes (bytes_in K c c.si
 pub record Planned {L : Type 0} (K : Kind L) (bytes bits copy : List ℕ) (garbler evaluator : Side) (lent : Lent L) (calls : List Call) (lines : List (Line L)) : Type 0 where
   pub garbler_new : garbler ≡ unused
   pub evaluator_new : evaluator ≡ unused
-  pub accepted : plain_refusal bytes bits (wires_in (parts_of bytes)) (parts_of bytes).sizes.outputs ≡ None
+  pub accepted : bits_refusal bytes bits ≡ None
   pub calls_are : calls ≡ calls_of K (parts_of bytes) bits
   pub enough : Enough K bytes copy lent.zeros.now lent.labels.now lent.sent.now lent.scratch.now lent.material.now lent.colours.now lent.outputs.now calls lines

@@ -1,6 +1,6 @@
 // The calls of a whole settlement.
 ghost use Rattle.std.specs.Prelude.{◌≡◌, length, IfOk};
-ghost use Rattle.tables.specs.Material.{listed};
+ghost use Rattle.labels.specs.Lists.{listed};
 ghost use Rattle.exchange.specs.Course.{calls_in, course};
 
 use circuit::sizes::Sizes;

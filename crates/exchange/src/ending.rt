@@ -1,9 +1,7 @@
 // The end of a settlement: both sides are wiped.
-ghost use Rattle.std.specs.Prelude.{◌≡◌, not, length, None};
-ghost use Rattle.parties.specs.Refusing.{wipe_refusal};
+ghost use Rattle.std.specs.Prelude.{◌≡◌, length, None};
+ghost use Rattle.parties.specs.Refusing.{garbler_wipe_refusal, evaluator_wipe_refusal};
 ghost use Rattle.parties.specs.Side.{unused};
-ghost use Rattle.parties.specs.States.{state_of, allowed};
-ghost use Rattle.parties.specs.declared.state.EvaluatorCall.TheVariants.{Wipe};
 
 use evaluator::record::{Evaluator, EvaluatorToken};
 use garbler::record::{Garbler, GarblerToken};
@@ -17,8 +15,8 @@ pub fn wipe_both<L: Label>(
     tokens: (GarblerToken, EvaluatorToken),
     lent: &mut Lent<L>,
 )
-    requires garbler { wipe_refusal garbler.old.progress.side (not garbler.old.progress.side.ended) (length lent.old.zeros.now) ≡ None }
-    requires evaluator { wipe_refusal evaluator.old.progress.side (allowed (state_of evaluator.old.progress.side) Wipe) (length lent.old.labels.now) ≡ None }
+    requires garbler { garbler_wipe_refusal garbler.old.progress.side (length lent.old.zeros.now) ≡ None }
+    requires evaluator { evaluator_wipe_refusal evaluator.old.progress.side (length lent.old.labels.now) ≡ None }
     ensures garbler_ended { garbler.new.progress.side ≡ unused }
     ensures evaluator_ended { evaluator.new.progress.side ≡ unused }
 {

@@ -1,7 +1,7 @@
 // The memory that a whole settlement is run in, on the heap.
 ghost use Rattle.std.specs.Prelude.{◌≡◌, length, Some, None, IfOk, MatchResult};
 ghost use Rattle.circuit.specs.Gates.{wires_in};
-ghost use Rattle.plain.specs.Plain.{plain_refusal};
+ghost use Rattle.plain.specs.Plain.{bits_refusal};
 ghost use Rattle.plain.specs.Ready.{Ready};
 ghost use Rattle.circuit.specs.Lent.{parts_in};
 ghost use Rattle.circuit.specs.Parts.{parts_of};
@@ -37,7 +37,7 @@ pub struct Room<L> {
 
 // The circuit, where it passes and each of its inputs has a bit.
 fn judge<'a>(circuit: &'a [u8], bits: &[u8]) -> Result<Circuit<'a>, Refusal>
-    ensures { MatchResult result (λ c. Ready circuit.now bits.now (wires_in (parts_of circuit.now)) (parts_of circuit.now).sizes.outputs c) (λ why. plain_refusal circuit.now bits.now (wires_in (parts_of circuit.now)) (parts_of circuit.now).sizes.outputs ≡ Some why) }
+    ensures { MatchResult result (λ c. Ready circuit.now bits.now (wires_in (parts_of circuit.now)) (parts_of circuit.now).sizes.outputs c) (λ why. bits_refusal circuit.now bits.now ≡ Some why) }
 {
     let c = read(circuit)?;
     if bits.len() != usize::from(c.arrays.sizes.inputs) {
@@ -57,7 +57,7 @@ impl<L: Label> Room<L> {
         seed: &[u8],
         bits: &[u8],
     ) -> Result<Result<Room<L>, Refusal>, AllocError>
-        ensures { IfOk result (λ r. MatchResult r (λ m. Furnished L.kind circuit.now seed.now bits.now m) (λ why. plain_refusal circuit.now bits.now (wires_in (parts_of circuit.now)) (parts_of circuit.now).sizes.outputs ≡ Some why)) }
+        ensures { IfOk result (λ r. MatchResult r (λ m. Furnished L.kind circuit.now seed.now bits.now m) (λ why. bits_refusal circuit.now bits.now ≡ Some why)) }
     {
         match judge(circuit, bits) {
             Ok(c) => {
@@ -78,7 +78,7 @@ impl<L: Label> Room<L> {
     ) -> Result<Room<L>, AllocError>
         requires parts { parts_in c.arrays ≡ parts_of circuit.now }
         requires bits { length bits.now ≡ c.arrays.sizes.inputs }
-        requires accepted { plain_refusal circuit.now bits.now (wires_in (parts_of circuit.now)) (parts_of circuit.now).sizes.outputs ≡ None }
+        requires accepted { bits_refusal circuit.now bits.now ≡ None }
         ensures { IfOk result (λ m. Furnished L.kind circuit.now seed.now bits.now m) }
     {
         let zero = L::zero();

@@ -13,7 +13,7 @@ use Rattle.circuit.specs.declared.refusal.Refusal.{Refusal}
 use Rattle.gates.specs.Bytes.{laid}
 use Rattle.memory.specs.Start.{opened_wire}
 use Rattle.steps.specs.Gate.{new_zeros, gate_material}
-use Rattle.tables.specs.Table.{places}
+use Rattle.labels.specs.Lists.{places}
 use Rattle.parties.specs.declared.side.Side.{Side}
 use Rattle.parties.specs.Side.{started, stepped}
 

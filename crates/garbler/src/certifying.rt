@@ -1,9 +1,8 @@
 // The bit of an output's label.
-ghost use Rattle.std.specs.Prelude.{◌≡◌, length, not, Some, None, OnOk, IfOk, IfErr, true, false, MatchOption};
-ghost use Rattle.labels.specs.Kind.{times};
+ghost use Rattle.std.specs.Prelude.{◌≡◌, not, Some, None, OnOk, IfOk, IfErr, true, false, MatchOption};
 ghost use Rattle.circuit.specs.Gates.{output_of};
 ghost use Rattle.circuit.specs.Parts.{parts_of};
-ghost use Rattle.tables.specs.Table.{places};
+ghost use Rattle.labels.specs.Lists.{places};
 ghost use Rattle.parties.specs.Refusing.{is_foreign, certify_refusal};
 
 use crate::record::Garbler;

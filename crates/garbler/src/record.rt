@@ -36,7 +36,7 @@ impl<L: Label> Garbler<L> {
     }
 
     // The bytes of its material so far.
-    pub fn written(&self) -> usize
+    pub fn bytes_written(&self) -> usize
         ensures { result ≡ self.now.progress.side.bytes }
     {
         self.progress.side.bytes

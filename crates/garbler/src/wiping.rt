@@ -1,7 +1,7 @@
 // The end of a side.
-ghost use Rattle.std.specs.Prelude.{◌≡◌, not, length, replicate, Some, None, OnOk, OnErr, IfErr};
+ghost use Rattle.std.specs.Prelude.{◌≡◌, length, replicate, Some, None, OnOk, OnErr, IfErr};
 ghost use Rattle.parties.specs.Side.{unused};
-ghost use Rattle.parties.specs.Refusing.{wipe_refusal};
+ghost use Rattle.parties.specs.Refusing.{garbler_wipe_refusal};
 
 use crate::record::{Garbler, GarblerToken};
 use circuit::refusal::Refusal;
@@ -16,12 +16,12 @@ impl<L: Label> Garbler<L> {
         token: GarblerToken,
         wires: &mut [L],
     ) -> Result<(), (Refusal, GarblerToken)>
-        ensures accepted { OnOk result (wipe_refusal self.old.progress.side (not self.old.progress.side.ended) (length wires.old) ≡ None) }
+        ensures accepted { OnOk result (garbler_wipe_refusal self.old.progress.side (length wires.old) ≡ None) }
         ensures ended { OnOk result (self.new.progress.side ≡ unused) }
         ensures offset { OnOk result (self.new.secrets.offset ≡ L.kind.zero) }
         ensures seed { OnOk result (self.new.secrets.seed ≡ L.kind.zero) }
         ensures cleared { OnOk result (wires.new ≡ replicate (length wires.old) L.kind.zero) }
-        ensures refused { IfErr result (λ e. wipe_refusal self.old.progress.side (not self.old.progress.side.ended) (length wires.old) ≡ Some e.0) }
+        ensures refused { IfErr result (λ e. garbler_wipe_refusal self.old.progress.side (length wires.old) ≡ Some e.0) }
         ensures same { OnErr result (self.new ≡ self.old) }
         ensures wires { OnErr result (wires.new ≡ wires.old) }
     {

@@ -2,8 +2,7 @@
 use Rattle.std.proofs.Common.{◌≡◌, ℕ, ◌<◌, ◌≤◌, true, false, eqb, leb, inl, inr, arith}
 use Rattle.std.proofs.lemmas.Bool.{cases_Bool}
 use Rattle.std.proofs.lemmas.Bool.Decides.{nat_tests}
-use Rattle.circuit.specs.Forms.{known, fan_in, fan_out, reads, makes}
-use Rattle.steps.specs.Gate.{by_form}
+use Rattle.circuit.specs.Forms.{known, fan_in, fan_out, reads, makes, by_form}
 
 -- what holds in each arm
 pub at_each : {X : Type 0} (P : X → Type 0) (form : ℕ) (x a t : X) → (form ≡ 0 → P x) → (form ≡ 1 → P a) → (1 < form → P t) → P (by_form form x a t)

@@ -12,8 +12,9 @@ use Rattle.circuit.specs.Material.{gate_bytes}
 use Rattle.circuit.specs.Check.{bytes_in}
 use Rattle.hashes.specs.Draws.{offset}
 use Rattle.tables.specs.Gate.{material}
-use Rattle.tables.specs.Material.{each, packed, written, one_hot_part, mask_part}
-use Rattle.tables.specs.Table.{places, based, colours, hot, hot_row, mask_row, turned}
+use Rattle.labels.specs.Lists.{each, places}
+use Rattle.tables.specs.Material.{packed, written, one_hot_part, mask_part}
+use Rattle.tables.specs.Table.{based, colours, hot, hot_row, mask_row, turned}
 use Rattle.tables.proofs.Packing.{length_listed}
 use Rattle.tables.proofs.Reading.{length_each}
 use Rattle.steps.specs.Gate.{rows_in, operand_labels, new_zeros, gate_material, new_labels}

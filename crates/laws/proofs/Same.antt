@@ -7,7 +7,7 @@ use Rattle.circuit.specs.Forms.{fan_in, fan_out, reads}
 use Rattle.circuit.specs.Parts.{Parts}
 use Rattle.circuit.specs.Gates.{form_of, operand_of, made_before}
 use Rattle.tables.specs.Gate.{material_for, zeros_for, evaluated}
-use Rattle.tables.specs.Table.{places}
+use Rattle.labels.specs.Lists.{places}
 use Rattle.tables.proofs.Packing.{listed_ext}
 use Rattle.steps.specs.Gate.{rows_in, operand_labels, new_zeros, gate_material, new_labels}
 use Rattle.laws.proofs.Ordered.{Ordered}

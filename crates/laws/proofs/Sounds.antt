@@ -15,7 +15,8 @@ use Rattle.circuit.specs.Gates.{form_of, operand_of, rows_from, row_of, made_bef
 use Rattle.circuit.proofs.Stretches.{word_of_part}
 use Rattle.tables.specs.Gate.{drawn, material, material_for, zeros_for, evaluated, labels_of_row}
 use Rattle.labels.specs.Words.{word_at}
-use Rattle.tables.specs.Table.{places, made}
+use Rattle.labels.specs.Lists.{places}
+use Rattle.tables.specs.Table.{made}
 use Rattle.tables.proofs.Gating.{gate_meets}
 use Rattle.tables.proofs.Packing.{length_listed, get_or_listed}
 use Rattle.plain.specs.Plain.{gate_bit, plain_bit}

@@ -5,7 +5,7 @@ use Rattle.hashes.specs.Draws.{offset, input_zero}
 use Rattle.circuit.specs.Forms.{makes}
 use Rattle.circuit.specs.Parts.{Parts}
 use Rattle.circuit.specs.Gates.{form_of, made_before}
-use Rattle.tables.specs.Table.{places}
+use Rattle.labels.specs.Lists.{places}
 use Rattle.steps.specs.Gate.{new_zeros, new_labels}
 use Rattle.steps.specs.Whole.{zero_rule, zero_label, material_at, input_label, label_rule, label}
 use Rattle.laws.proofs.Ordered.{Ordered}

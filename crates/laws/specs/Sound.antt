@@ -6,7 +6,7 @@ use Rattle.circuit.specs.Check.{circuit_refusal}
 use Rattle.circuit.specs.Forms.{makes}
 use Rattle.circuit.specs.Parts.{Parts, parts_of}
 use Rattle.circuit.specs.Gates.{form_of, operand_of, made_before, wires_in}
-use Rattle.tables.specs.Table.{places}
+use Rattle.labels.specs.Lists.{places}
 use Rattle.plain.specs.Plain.{gate_bit, plain_bit}
 use Rattle.steps.specs.Gate.{new_zeros, gate_material, new_labels}
 use Rattle.steps.specs.Whole.{zero_label, label}

@@ -5,7 +5,7 @@ use Rattle.circuit.specs.Parts.{parts_of}
 use Rattle.circuit.specs.Gates.{wires_in}
 use Rattle.circuit.specs.Refusals.{or_else}
 use Rattle.circuit.specs.declared.refusal.Refusal.{Refusal}
-use Rattle.plain.specs.Plain.{plain_refusal}
+use Rattle.plain.specs.Plain.{bits_refusal}
 use Rattle.parties.specs.declared.side.Side.{Side}
 use Rattle.parties.specs.Side.{unused}
 use Rattle.parties.specs.Refusing.{open_refusal}
@@ -48,10 +48,10 @@ planned K bytes seed bits copy m garbler evaluator lent calls lines f loans eg e
 }
 
 -- what stands against a settlement whose circuit and bits are accepted
-pub then_opening : {L : Type 0} (K : Kind L) (F : L → ℕ → L) (bytes seed bits : List ℕ) (o : Option Refusal) → plain_refusal bytes bits (wires_in (parts_of bytes)) (parts_of bytes).sizes.outputs ≡ None
+pub then_opening : {L : Type 0} (K : Kind L) (F : L → ℕ → L) (bytes seed bits : List ℕ) (o : Option Refusal) → bits_refusal bytes bits ≡ None
     → open_refusal unused bytes K F (wires_in (parts_of bytes)) seed ≡ o → whole_refusal K F bytes seed bits ≡ o
 then_opening K F bytes seed bits o e f = ap (λ (p : Option Refusal). or_else p (open_refusal unused bytes K F (wires_in (parts_of bytes)) seed)) e ∙ f
 
-pub at_first : {L : Type 0} (K : Kind L) (F : L → ℕ → L) (bytes seed bits : List ℕ) (why : Refusal) → plain_refusal bytes bits (wires_in (parts_of bytes)) (parts_of bytes).sizes.outputs ≡ Some why
+pub at_first : {L : Type 0} (K : Kind L) (F : L → ℕ → L) (bytes seed bits : List ℕ) (why : Refusal) → bits_refusal bytes bits ≡ Some why
     → whole_refusal K F bytes seed bits ≡ Some why
 at_first K F bytes seed bits why e = ap (λ (p : Option Refusal). or_else p (open_refusal unused bytes K F (wires_in (parts_of bytes)) seed)) e

@@ -2,7 +2,7 @@
 use Rattle.std.proofs.Common.{◌≡◌, ℕ, zero, suc, ◌<◌, Bool, false, List, ◌++◌, length, get_or, codes, refl, ap, ◌∙◌, ap₂, arith}
 use Rattle.labels.specs.Papers.{paper}
 use Rattle.labels.specs.declared.paper.Paper.{Paper}
-use Rattle.tables.specs.Table.{places}
+use Rattle.labels.specs.Lists.{places}
 use Rattle.exchange.specs.Outcome.{Outcome}
 use Rattle.hashes.specs.Draws.{offset}
 use Rattle.hashes.specs.PaperHash.{paper_hash}

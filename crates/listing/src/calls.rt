@@ -1,5 +1,5 @@
 // The lines of a settlement under long labels.
-ghost use Rattle.std.specs.Prelude.{◌≡◌, ◌-◌, ◌++◌, length, string_bytes, OnOk};
+ghost use Rattle.std.specs.Prelude.{◌≡◌, ◌++◌, length, string_bytes, OnOk};
 ghost use Rattle.settlement.specs.Lines.{call_at, line_at};
 ghost use Rattle.listing.specs.Calls.{hex_long, call_text, answer_text, call_line, call_lines};
 

@@ -1,5 +1,5 @@
 // The joint dividend of two ticket counts, by a settlement under long labels and the AES hash.
-ghost use Rattle.std.specs.Prelude.{◌≡◌, ℕ, OnOk, ◌+◌, ◌≤◌, ◌++◌, length, ◌-◌, IfOk, Some, None, string_bytes, MatchResult, nat_eq, slice_index, slice_index_or};
+ghost use Rattle.std.specs.Prelude.{◌≡◌, ℕ, OnOk, ◌+◌, ◌≤◌, ◌++◌, length, ◌-◌, IfOk, Some, None, string_bytes, MatchResult, nat_eq, slice_index};
 ghost use Rattle.labels.specs.Numbers.{number as number_from};
 ghost use Rattle.settlement.specs.Lines.{call_at, line_at};
 ghost use Rattle.listing.specs.Lines.{text_unless};

@@ -1,7 +1,7 @@
 // The lines of a worksheet.
 ghost use Rattle.std.specs.Prelude.{◌≡◌, false, ◌++◌, length, string_bytes, OnOk, slice_index, slice_index_or};
 ghost use Rattle.labels.specs.Papers.{paper};
-ghost use Rattle.tables.specs.Table.{places};
+ghost use Rattle.labels.specs.Lists.{places};
 ghost use Rattle.listing.specs.Sheet.{offset_line, label_line, label_lines, material_line};
 
 use crate::hex::{add_bytes, add_label};

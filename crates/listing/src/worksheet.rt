@@ -1,12 +1,12 @@
 // The worksheet: the work of both sides, wire by wire.
-ghost use Rattle.std.specs.Prelude.{◌≡◌, ℕ, List, ◌<◌, ◌≤◌, false, ◌++◌, length, IfOk, Some, None, string_bytes, MatchResult, slice_index, slice_index_or};
+ghost use Rattle.std.specs.Prelude.{◌≡◌, ℕ, List, ◌<◌, false, ◌++◌, length, IfOk, None, string_bytes, slice_index, slice_index_or};
 ghost use Rattle.labels.specs.Papers.{paper};
 ghost use Rattle.hashes.specs.Draws.{offset};
 ghost use Rattle.hashes.specs.PaperHash.{paper_hash};
 ghost use Rattle.circuit.specs.Gates.{wires_in};
 ghost use Rattle.circuit.specs.Parts.{parts_of};
-ghost use Rattle.plain.specs.Plain.{bit_in, plain_bit, plain_refusal};
-ghost use Rattle.tables.specs.Table.{places};
+ghost use Rattle.plain.specs.Plain.{bit_in, plain_bit, plain_refusal, bits_refusal};
+ghost use Rattle.labels.specs.Lists.{places};
 ghost use Rattle.settlement.specs.declared.line.Line.{Line};
 ghost use Rattle.labels.specs.declared.paper.Paper.{Paper};
 ghost use Rattle.exchange.specs.Planned.{whole_refusal};
@@ -80,7 +80,7 @@ fn sheet_text(
 
 // The text of a settlement that is done.
 fn written(heap: Global, p: Input, lent: &Lent<Paper>) -> Result<String, AllocError>
-    requires passes { plain_refusal p.circuit.now p.bits.now (wires_in (parts_of p.circuit.now)) (parts_of p.circuit.now).sizes.outputs ≡ None }
+    requires passes { bits_refusal p.circuit.now p.bits.now ≡ None }
     requires seed { length p.seed.now ≡ 2 }
     requires zeros { length lent.now.zeros.now ≡ wires_in (parts_of p.circuit.now) }
     requires labels { length lent.now.labels.now ≡ wires_in (parts_of p.circuit.now) }

@@ -3,8 +3,7 @@ use Rattle.std.specs.Prelude.{ℕ, List, ◌==◌, slice_index}
 use Rattle.labels.specs.Kind.{Kind, differs}
 use Rattle.labels.specs.Numbers.{digit}
 use Rattle.labels.specs.Words.{word_at}
-use Rattle.tables.specs.Material.{listed}
-use Rattle.tables.specs.Table.{places}
+use Rattle.labels.specs.Lists.{listed, places}
 
 module _ {L : Type 0} (K : Kind L) (wires : List L) (outputs : List ℕ) where
   -- the colour of the label on output o's wire

@@ -4,7 +4,7 @@ ghost use Rattle.labels.specs.Kind.{differs};
 ghost use Rattle.labels.specs.Numbers.{digit};
 ghost use Rattle.labels.specs.Words.{word_at};
 ghost use Rattle.circuit.specs.Words.{all_below};
-ghost use Rattle.tables.specs.Table.{places};
+ghost use Rattle.labels.specs.Lists.{places};
 ghost use Rattle.memory.specs.Outputs.{colours_of, decoded_of};
 
 use circuit::words::word_at;

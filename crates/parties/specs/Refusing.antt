@@ -11,10 +11,10 @@ use Rattle.circuit.specs.Check.{circuit_refusal}
 use Rattle.circuit.specs.Refusals.{first_of, or_else}
 use Rattle.circuit.specs.declared.refusal.Refusal.{Refusal}
 use Rattle.circuit.specs.declared.refusal.Refusal.TheVariants.{Turn, Memory, Material, Number, Bit, Again, ZeroSeed, Colourless, Foreign}
-use Rattle.tables.specs.Table.{places}
+use Rattle.labels.specs.Lists.{places}
 use Rattle.memory.specs.Seed.{blank}
 use Rattle.parties.specs.declared.side.Side.{Side}
-use Rattle.parties.specs.declared.state.EvaluatorCall.TheVariants.{Join, Deliver, Evaluate, Decode}
+use Rattle.parties.specs.declared.state.EvaluatorCall.TheVariants.{Join, Deliver, Evaluate, Decode, Wipe}
 use Rattle.parties.specs.Marks.{is_marked}
 use Rattle.parties.specs.Turns.{is_its, gates_left}
 use Rattle.parties.specs.States.{state_of, allowed}
@@ -120,3 +120,9 @@ wipe_refusal s turn wires =
     first_of ((not turn, Turn)
     ∷ (nat_lt wires s.wires, Memory)
     ∷ [])
+
+abbrev pub garbler_wipe_refusal : Side → ℕ → Option Refusal
+garbler_wipe_refusal s wires = wipe_refusal s (not s.ended) wires
+
+abbrev pub evaluator_wipe_refusal : Side → ℕ → Option Refusal
+evaluator_wipe_refusal s wires = wipe_refusal s (allowed (state_of s) Wipe) wires

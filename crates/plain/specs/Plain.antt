@@ -1,12 +1,12 @@
 -- Plain evaluation: the bit on each wire, and what a plain run is. Assumes nothing.
-use Rattle.std.specs.Prelude.{◌≡◌, ℕ, ◌+◌, ◌<◌, Bool, false, cond, not, ◌&&◌, ◌||◌, List, [], ◌∷◌, length, get_or, None, Option, ◌==◌, nat_lt, slice_index, slice_index_or}
+use Rattle.std.specs.Prelude.{◌≡◌, ℕ, ◌+◌, ◌<◌, Bool, false, not, ◌&&◌, ◌||◌, List, [], ◌∷◌, length, get_or, None, Option, ◌==◌, nat_lt, slice_index, slice_index_or}
 use Rattle.labels.specs.Kind.{differs}
 use Rattle.labels.specs.Numbers.{bit, digit, number}
 use Rattle.labels.specs.Words.{word_at}
 use Rattle.circuit.specs.Refusals.{first_of, or_else}
 use Rattle.circuit.specs.Words.{all_below}
 use Rattle.circuit.specs.Parts.{Parts, parts_of}
-use Rattle.circuit.specs.Forms.{fan_in, makes}
+use Rattle.circuit.specs.Forms.{fan_in, makes, by_form}
 use Rattle.circuit.specs.Gates.{form_of, operand_of, row_of, output_of, made_before, wires_in}
 use Rattle.circuit.specs.Check.{circuit_refusal}
 use Rattle.wires.specs.Wires.{wire_after, Filled}
@@ -30,9 +30,7 @@ module _ (c : Parts) where
   -- XOR, AND, or bit j of the row whose number they are
   unfoldable pub gate_bit : ℕ → (ℕ → Bool) → ℕ → Bool
   gate_bit g x j =
-      cond (form_of c g == 0) (differs (x 0) (x 1))
-      (cond (form_of c g == 1) (x 0 && x 1)
-      (bit j (row_of c g (number (fan_in (form_of c g)) x))))
+      by_form (form_of c g) (differs (x 0) (x 1)) (x 0 && x 1) (bit j (row_of c g (number (fan_in (form_of c g)) x)))
 
   abbrev pub plain_rule : ℕ → (ℕ → Bool) → ℕ → Bool
   plain_rule g v j = gate_bit g (λ i. v (operand_of c g i)) j
@@ -59,6 +57,10 @@ plain_refusal bytes bits wires outputs =
     )
     ∷ (not (all_below (λ i. slice_index bits i) (length bits) 2), Bit)
     ∷ []))
+
+-- the same with as much memory as the circuit asks for: of the circuit and the bits alone
+abbrev pub bits_refusal : List ℕ → List ℕ → Option Refusal
+bits_refusal bytes bits = plain_refusal bytes bits (wires_in (parts_of bytes)) (parts_of bytes).sizes.outputs
 
 -- an accepted evaluation: the bits of the definition on the wires and in the outputs, and so a plain run
 pub record Evaluated (bytes bits : List ℕ) (old new : List Bool) (outputs : List ℕ) : Type 0 where

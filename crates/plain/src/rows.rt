@@ -1,5 +1,5 @@
 // A table's rows: the one that the operands choose, and its bits.
-ghost use Rattle.std.specs.Prelude.{◌≡◌, ℕ, ◌+◌, ◌*◌, ◌/◌, ◌^◌, ◌<◌, ◌≤◌, true, false, length, slice_index_or};
+ghost use Rattle.std.specs.Prelude.{◌≡◌, ℕ, ◌/◌, ◌^◌, ◌<◌, ◌≤◌, true, false, length, slice_index_or};
 ghost use Rattle.labels.specs.Numbers.{bit as bit_of, number as number_from};
 ghost use Rattle.labels.specs.Words.{word_at};
 ghost use Rattle.circuit.specs.Words.{all_below};

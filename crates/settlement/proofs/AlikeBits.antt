@@ -7,8 +7,7 @@ use Rattle.labels.specs.Words.{word_at}
 use Rattle.circuit.specs.Parts.{parts_of}
 use Rattle.circuit.specs.Words.{all_below}
 use Rattle.circuit.proofs.Bounds.{below_all}
-use Rattle.tables.specs.Material.{listed}
-use Rattle.tables.specs.Table.{places}
+use Rattle.labels.specs.Lists.{listed, places}
 use Rattle.tables.proofs.Packing.{length_listed, get_or_listed}
 use Rattle.settlement.specs.State.{State}
 use Rattle.settlement.specs.Stands.{colours_by}

@@ -4,7 +4,7 @@ use Rattle.std.proofs.lemmas.Bool.{cases_Bool}
 use Rattle.labels.specs.Kind.{Kind}
 use Rattle.hashes.specs.Count.{counted}
 use Rattle.circuit.specs.Parts.{Parts, parts_of}
-use Rattle.circuit.specs.Forms.{fan_in, fan_out, makes}
+use Rattle.circuit.specs.Forms.{fan_in, fan_out, makes, by_form}
 use Rattle.circuit.specs.Gates.{form_of}
 use Rattle.circuit.specs.Material.{gate_bits, gate_bytes}
 use Rattle.circuit.specs.declared.refusal.Refusal.{Refusal}
@@ -16,7 +16,7 @@ use Rattle.parties.specs.Turns.{gates_left}
 use Rattle.parties.specs.States.{state_of, allowed}
 use Rattle.parties.specs.Refusing.{garble_refusal, encode_refusal, deliver_refusal, evaluate_refusal, colours_refusal, decode_refusal, output_refusal}
 use Rattle.parties.specs.Side.{marked, stepped}
-use Rattle.steps.specs.Gate.{by_form, garble_calls, evaluate_calls}
+use Rattle.steps.specs.Gate.{garble_calls, evaluate_calls}
 use Rattle.tables.specs.Gate.{garbler_calls, evaluator_calls}
 use Rattle.settlement.specs.State.{State}
 use Rattle.settlement.specs.Lines.{bare}

@@ -8,7 +8,7 @@ use Rattle.laws.proofs.Lengths.{material_long}
 use Rattle.memory.specs.Outputs.{colour_at, colours_of}
 use Rattle.parties.specs.Turns.{gates_left}
 use Rattle.steps.specs.Gate.{gate_material}
-use Rattle.tables.specs.Table.{places}
+use Rattle.labels.specs.Lists.{places}
 use Rattle.tables.proofs.Packing.{length_listed}
 use Rattle.settlement.specs.State.{State}
 use Rattle.settlement.specs.Stands.{refusal, sent_label}

@@ -7,7 +7,7 @@ use Rattle.circuit.specs.Parts.{parts_of}
 use Rattle.circuit.specs.Gates.{made_before, output_of}
 use Rattle.plain.specs.Plain.{plain_bit}
 use Rattle.steps.specs.Whole.{zero_label, material_before}
-use Rattle.tables.specs.Table.{places}
+use Rattle.labels.specs.Lists.{places}
 use Rattle.parties.specs.Marks.{is_marked, all_marked}
 use Rattle.settlement.specs.State.{State}
 

@@ -13,7 +13,7 @@ use Rattle.circuit.specs.declared.refusal.Refusal.{Refusal}
 use Rattle.circuit.specs.declared.refusal.Refusal.TheVariants.{Turn, Memory, Number, Foreign}
 use Rattle.plain.specs.Plain.{plain_bit}
 use Rattle.steps.specs.Whole.{zero_label}
-use Rattle.tables.specs.Table.{places}
+use Rattle.labels.specs.Lists.{places}
 use Rattle.memory.specs.Copy.{open_copy}
 use Rattle.laws.specs.Opened.{opened}
 use Rattle.laws.proofs.Order.{made_up}

@@ -16,7 +16,7 @@ use Rattle.gates.specs.Bytes.{laid, bytes_at}
 use Rattle.plain.specs.Plain.{plain_bit}
 use Rattle.steps.specs.Gate.{new_zeros, gate_material, new_labels}
 use Rattle.steps.specs.Whole.{zero_label, material_at, material_before}
-use Rattle.tables.specs.Table.{places}
+use Rattle.labels.specs.Lists.{places}
 use Rattle.memory.specs.Copy.{open_copy}
 use Rattle.laws.specs.Opened.{opened}
 use Rattle.laws.proofs.Ordered.{Ordered}

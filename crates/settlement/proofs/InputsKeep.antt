@@ -7,7 +7,7 @@ use Rattle.labels.specs.Kind.{Kind, times}
 use Rattle.circuit.specs.Parts.{Parts, parts_of}
 use Rattle.circuit.specs.Gates.{made_before, wires_in}
 use Rattle.circuit.specs.Check.{circuit_refusal}
-use Rattle.tables.specs.Table.{places}
+use Rattle.labels.specs.Lists.{places}
 use Rattle.memory.specs.Copy.{open_copy}
 use Rattle.laws.proofs.Order.{made_zero, inputs_within}
 use Rattle.laws.proofs.Bits.{plain_input}

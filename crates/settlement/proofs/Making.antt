@@ -8,7 +8,7 @@ use Rattle.circuit.specs.Gates.{form_of}
 use Rattle.circuit.specs.Material.{gate_bytes}
 use Rattle.circuit.specs.declared.refusal.Refusal.{Refusal}
 use Rattle.gates.specs.Bytes.{laid}
-use Rattle.tables.specs.Table.{places}
+use Rattle.labels.specs.Lists.{places}
 use Rattle.steps.specs.Gate.{garble_calls, gate_material}
 use Rattle.parties.specs.Refusing.{garble_refusal}
 use Rattle.garbler.specs.Garbling.{Garbled}

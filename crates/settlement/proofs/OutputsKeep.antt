@@ -9,8 +9,7 @@ use Rattle.circuit.specs.Parts.{Parts, parts_of}
 use Rattle.circuit.specs.Gates.{output_of, wires_in}
 use Rattle.circuit.specs.Check.{circuit_refusal}
 use Rattle.steps.specs.Whole.{zero_label}
-use Rattle.tables.specs.Table.{places}
-use Rattle.tables.specs.Material.{listed}
+use Rattle.labels.specs.Lists.{listed, places}
 use Rattle.tables.proofs.Packing.{length_listed, get_or_listed}
 use Rattle.circuit.proofs.Checks.{or_else_none}
 use Rattle.memory.specs.Copy.{open_copy}

@@ -10,7 +10,7 @@ use Rattle.circuit.specs.Refusals.{or_else}
 use Rattle.circuit.specs.declared.refusal.Refusal.{Refusal}
 use Rattle.circuit.proofs.Checks.{or_else_none, only_none}
 use Rattle.circuit.proofs.GateParts.{made_within}
-use Rattle.tables.specs.Table.{places}
+use Rattle.labels.specs.Lists.{places}
 use Rattle.memory.specs.Copy.{open_copy, copy_refusal}
 use Rattle.parties.specs.declared.side.Side.{Side}
 use Rattle.parties.specs.Refusing.{seed_refusal, open_refusal, join_refusal}
@@ -83,7 +83,7 @@ module _ {L : Type 0} (K : Kind L) (F E : L → ℕ → L) (bytes seed : List �
           sent_room = let e = ap (λ (xs : List L). length xs) b.sent in omega arith;
           none_shown = b.shown ∙ fresh;
           none_decoded = b.decoded ∙ fresh_bits;
-          garbler_count = b.count;
+          garbler_count = b.garbler_count;
           evaluator_count = b.evaluator_count;
           evaluator_fits = fits;
         }

@@ -9,7 +9,7 @@ use Rattle.circuit.specs.Parts.{Parts, parts_of}
 use Rattle.circuit.specs.Gates.{output_of, made_before}
 use Rattle.plain.specs.Plain.{plain_bit}
 use Rattle.steps.specs.Whole.{zero_label}
-use Rattle.tables.specs.Table.{places}
+use Rattle.labels.specs.Lists.{places}
 use Rattle.hashes.specs.Count.{counted}
 use Rattle.garbler.specs.Garbling.{encoded}
 use Rattle.laws.proofs.Order.{made_zero}

@@ -13,8 +13,7 @@ use Rattle.circuit.specs.Check.{circuit_refusal}
 use Rattle.gates.proofs.Halves.{colour_of_bit}
 use Rattle.plain.specs.Plain.{plain_bit}
 use Rattle.steps.specs.Whole.{zero_label}
-use Rattle.tables.specs.Table.{places}
-use Rattle.tables.specs.Material.{listed}
+use Rattle.labels.specs.Lists.{listed, places}
 use Rattle.tables.proofs.Packing.{length_listed, get_or_listed}
 use Rattle.memory.specs.Copy.{open_copy}
 use Rattle.memory.specs.Outputs.{decoded_at, decoded_of}

@@ -9,8 +9,8 @@ use Rattle.memory.specs.Copy.{open_copy}
 use Rattle.parties.specs.declared.side.Side.{Side}
 use Rattle.parties.specs.declared.state.EvaluatorCall.TheVariants.{Wipe}
 use Rattle.parties.specs.declared.state.State.TheVariants.{Collecting, Evaluating, Finished}
-use Rattle.parties.specs.Refusing.{wipe_refusal}
-use Rattle.parties.specs.States.{state_of, allowed}
+use Rattle.parties.specs.Refusing.{garbler_wipe_refusal, evaluator_wipe_refusal}
+use Rattle.parties.specs.States.{allowed}
 use Rattle.parties.specs.Marks.{all_marked}
 use Rattle.parties.specs.Turns.{gates_left}
 use Rattle.circuit.specs.declared.refusal.Refusal.{Refusal}
@@ -104,7 +104,7 @@ module _ {L : Type 0} (w v : ℕ) (s : State L) (held : Held w v s) where
   labels_enough : ltb (length s.labels) s.evaluator.wires ≡ false
   labels_enough = le-ltb (length s.labels) s.evaluator.wires (let a = held.evaluator_wires in let b = held.labels in omega arith)
 
-  pub garbler_may : wipe_refusal s.garbler (not s.garbler.ended) (length s.zeros) ≡ None
+  pub garbler_may : garbler_wipe_refusal s.garbler (length s.zeros) ≡ None
   garbler_may = rw (held.garbler, zeros_enough)
 
   allowed_still : (a b : Bool) → allowed (cond a (cond b Evaluating Finished) Collecting) Wipe ≡ true
@@ -113,5 +113,5 @@ module _ {L : Type 0} (w v : ℕ) (s : State L) (held : Held w v s) where
   allowed_still false true = refl
   allowed_still false false = refl
 
-  pub evaluator_may : wipe_refusal s.evaluator (allowed (state_of s.evaluator) Wipe) (length s.labels) ≡ None
+  pub evaluator_may : evaluator_wipe_refusal s.evaluator (length s.labels) ≡ None
   evaluator_may = rw (held.evaluator, allowed_still (all_marked s.evaluator.marks s.evaluator.sizes.inputs) (gates_left s.evaluator), labels_enough)

@@ -9,7 +9,7 @@ use Rattle.circuit.specs.Gates.{form_of, output_of}
 use Rattle.circuit.specs.Material.{gate_bits, gate_bytes}
 use Rattle.gates.specs.Bytes.{laid, bytes_at}
 use Rattle.steps.specs.Gate.{new_zeros, gate_material, new_labels, garble_calls, evaluate_calls}
-use Rattle.tables.specs.Table.{places}
+use Rattle.labels.specs.Lists.{places}
 use Rattle.memory.specs.Copy.{open_copy}
 use Rattle.memory.specs.Outputs.{colours_of, decoded_of}
 use Rattle.garbler.specs.Garbling.{encoded}

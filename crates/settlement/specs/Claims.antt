@@ -9,7 +9,7 @@ use Rattle.circuit.specs.Gates.{output_of, wires_in}
 use Rattle.plain.specs.Plain.{plain_bit}
 use Rattle.steps.specs.Gate.{garble_calls, evaluate_calls}
 use Rattle.steps.specs.Whole.{zero_label, material_before}
-use Rattle.tables.specs.Table.{places}
+use Rattle.labels.specs.Lists.{places}
 use Rattle.parties.specs.Marks.{is_marked}
 use Rattle.circuit.specs.declared.refusal.Refusal.TheVariants.{Foreign}
 use Rattle.settlement.specs.State.{State}

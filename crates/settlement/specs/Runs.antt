@@ -8,7 +8,7 @@ use Rattle.circuit.specs.Gates.{wires_in}
 use Rattle.circuit.specs.Check.{circuit_refusal}
 use Rattle.memory.specs.Copy.{open_copy}
 use Rattle.parties.specs.Side.{started}
-use Rattle.tables.specs.Table.{places}
+use Rattle.labels.specs.Lists.{places}
 use Rattle.settlement.specs.State.{State}
 use Rattle.settlement.specs.Followed.{Follows}
 use Rattle.settlement.specs.declared.call.Call.{Call}

@@ -4,9 +4,7 @@ use Rattle.labels.specs.Kind.{Kind}
 use Rattle.hashes.specs.Count.{counted}
 use Rattle.circuit.specs.Parts.{parts_of}
 use Rattle.memory.specs.Copy.{open_copy}
-use Rattle.parties.specs.declared.state.EvaluatorCall.TheVariants.{Wipe}
-use Rattle.parties.specs.States.{state_of, allowed}
-use Rattle.parties.specs.Refusing.{wipe_refusal}
+use Rattle.parties.specs.Refusing.{garbler_wipe_refusal, evaluator_wipe_refusal}
 use Rattle.garbler.specs.Garbling.{Opened}
 use Rattle.evaluator.specs.Evaluating.{Joined}
 use Rattle.settlement.specs.State.{State}
@@ -20,7 +18,7 @@ use Rattle.settlement.specs.declared.past.Past.{Past}
 pub record Begins {L : Type 0} (K : Kind L) (F : L → ℕ → L) (bytes seed : List ℕ) (old new : State L) : Type 0 where
   pub opened : Opened K F (parts_of bytes) seed new.garbler new.offset new.seed old.zeros new.zeros
   pub joined : Joined K (parts_of (open_copy bytes)) new.evaluator old.labels new.labels
-  pub count : new.garbler_count ≡ counted old.garbler_count (1 + (parts_of bytes).sizes.inputs)
+  pub garbler_count : new.garbler_count ≡ counted old.garbler_count (1 + (parts_of bytes).sizes.inputs)
   pub evaluator_count : new.evaluator_count ≡ old.evaluator_count
   pub sent : new.sent ≡ old.sent
   pub scratch : new.scratch ≡ old.scratch
@@ -39,8 +37,8 @@ module _ {L : Type 0} (K : Kind L) (r : Settlement L) (seed : List ℕ) where
     pub claims : r.evaluator_hash ≡ r.garbler_hash → (k : ℕ) → k ≤ length r.calls → Claims K r k
     pub lines : r.evaluator_hash ≡ r.garbler_hash → (k : ℕ) → k < length r.calls → LineClaims K r k
     -- both sides can be wiped, so that both tokens can be spent
-    pub garbler_wipes : wipe_refusal last.garbler (not last.garbler.ended) (length last.zeros) ≡ None
-    pub evaluator_wipes : wipe_refusal last.evaluator (allowed (state_of last.evaluator) Wipe) (length last.labels) ≡ None
+    pub garbler_wipes : garbler_wipe_refusal last.garbler (length last.zeros) ≡ None
+    pub evaluator_wipes : evaluator_wipe_refusal last.evaluator (length last.labels) ≡ None
 
 -- what a settlement that is run leaves, for some states between its calls, and what went from one side to the other
 pub record Ended {L : Type 0} (K : Kind L) (F E : L → ℕ → L) (bytes seed : List ℕ) (calls : List Call) (lines : List (Line L)) (old : State L) (last : Past → State L) : Type 0 where

@@ -4,7 +4,7 @@ use Rattle.labels.specs.Kind.{Kind}
 use Rattle.circuit.specs.Parts.{parts_of}
 use Rattle.circuit.specs.Gates.{output_of}
 use Rattle.circuit.specs.declared.refusal.Refusal.{Refusal}
-use Rattle.tables.specs.Table.{places}
+use Rattle.labels.specs.Lists.{places}
 use Rattle.memory.specs.Copy.{open_copy}
 use Rattle.parties.specs.Marks.{is_marked}
 use Rattle.parties.specs.Refusing.{garble_refusal, encode_refusal, deliver_refusal, evaluate_refusal, colours_refusal, decode_refusal, certify_refusal}

@@ -1,10 +1,8 @@
 // The inputs: encode's label, which deliver carries.
-ghost use Rattle.std.specs.Prelude.{◌≡◌, ℕ, ◌≤◌, cond, List, length, Option, nat_lt};
-ghost use Rattle.tables.specs.Table.{places};
+ghost use Rattle.std.specs.Prelude.{◌≡◌, ℕ, ◌≤◌, cond, List, length, nat_lt};
+ghost use Rattle.labels.specs.Lists.{places};
 ghost use Rattle.memory.specs.Copy.{open_copy};
-ghost use Rattle.garbler.specs.declared.record.Garbler.{Garbler};
 ghost use Rattle.evaluator.specs.declared.record.Evaluator.{Evaluator};
-ghost use Rattle.settlement.specs.declared.call.Call.{Call};
 ghost use Rattle.settlement.specs.declared.call.Call.TheVariants.{Encode, Deliver};
 ghost use Rattle.settlement.specs.declared.past.Past.{Past};
 ghost use Rattle.settlement.specs.State.{held_by};

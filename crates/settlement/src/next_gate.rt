@@ -1,9 +1,8 @@
 // The next gate of either side.
-ghost use Rattle.std.specs.Prelude.{◌≡◌, ℕ, List, Option};
+ghost use Rattle.std.specs.Prelude.{◌≡◌, ℕ, List};
 ghost use Rattle.memory.specs.Copy.{open_copy};
 ghost use Rattle.garbler.specs.declared.record.Garbler.{Garbler};
 ghost use Rattle.evaluator.specs.declared.record.Evaluator.{Evaluator};
-ghost use Rattle.settlement.specs.declared.call.Call.{Call};
 ghost use Rattle.settlement.specs.declared.call.Call.TheVariants.{Garble, Evaluate};
 ghost use Rattle.settlement.specs.declared.past.Past.{Past};
 ghost use Rattle.settlement.specs.State.{held_by};
@@ -29,7 +28,7 @@ pub fn garble<L: Label, G: LabelHash<L>>(
     ensures loans { SameLoans lent.old lent.new }
     ensures kept { G.means h.new ≡ G.means h.old }
 {
-    let before = garbler.written();
+    let before = garbler.bytes_written();
     let scratch = scratch.min(lent.scratch.len());
     let material = material.min(lent.material.len());
     let written = garbler.garble(
@@ -42,7 +41,7 @@ pub fn garble<L: Label, G: LabelHash<L>>(
     match written {
         Ok(bits) => Answer::Garbled {
             bits,
-            bytes: garbler.written() - before,
+            bytes: garbler.bytes_written() - before,
         },
         Err(why) => Answer::Refused(why),
     }
@@ -61,7 +60,7 @@ pub fn evaluate<L: Label, H: LabelHash<L>>(
     ensures loans { SameLoans lent.old lent.new }
     ensures kept { H.means h.new ≡ H.means h.old }
 {
-    let before = evaluator.read();
+    let before = evaluator.bytes_read();
     let scratch = scratch.min(lent.scratch.len());
     let written = written.min(lent.material.len());
     let evaluated = evaluator.evaluate(
@@ -73,7 +72,7 @@ pub fn evaluate<L: Label, H: LabelHash<L>>(
     );
     match evaluated {
         Ok(()) => Answer::Evaluated {
-            bytes: evaluator.read() - before,
+            bytes: evaluator.bytes_read() - before,
         },
         Err(why) => Answer::Refused(why),
     }

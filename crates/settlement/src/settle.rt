@@ -1,7 +1,5 @@
 // A settlement from its beginning to its end.
-ghost use Rattle.std.specs.Prelude.{◌≡◌, ℕ, ◌+◌, ◌≤◌, ◌++◌, length, drop, replicate, Some, None, Option, OnOk, OnErr, IfErr};
-ghost use Rattle.hashes.specs.Count.{counted};
-ghost use Rattle.circuit.specs.Parts.{parts_of};
+ghost use Rattle.std.specs.Prelude.{◌≡◌, ℕ, ◌+◌, ◌≤◌, ◌++◌, length, drop, replicate, Some, None, OnOk, OnErr, IfErr};
 ghost use Rattle.circuit.specs.Refusals.{or_else};
 ghost use Rattle.circuit.specs.declared.refusal.Refusal.{Refusal};
 ghost use Rattle.memory.specs.Copy.{open_copy};

@@ -61,7 +61,7 @@ fn make<L: Label, G: LabelHash<L>, H: LabelHash<L>>(
         Call::Encode { input, bit } => encode(garbler, circuit, lent, input, bit),
         Call::Deliver { input } => deliver(garbler, evaluator, copy, lent, input),
         Call::Evaluate { scratch } => {
-            let written = garbler.written();
+            let written = garbler.bytes_written();
             evaluate(evaluator, evaluator_hash, copy, lent, scratch, written)
         }
         Call::Colours { length } => colours(garbler, circuit, lent, past, length),

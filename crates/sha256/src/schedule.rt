@@ -1,7 +1,6 @@
 // The message schedule of one block.
-ghost use Rattle.std.specs.Prelude.{◌≡◌, ◌+◌, ◌*◌, ◌<◌, ◌≤◌, length};
+ghost use Rattle.std.specs.Prelude.{◌≡◌, ◌<◌, ◌≤◌, length};
 ghost use Rattle.sha256.specs.Schedule.{extended, schedule, word, words};
-ghost use Rattle.sha256.specs.Words.{word_at};
 
 use crate::functions::{small_sigma0, small_sigma1};
 

@@ -1,5 +1,4 @@
 // Hashes and AND gates, many in a row.
-ghost use Rattle.std.specs.Prelude.{◌≡◌};
 
 use gates::half;
 use gates::rows::{get, put};

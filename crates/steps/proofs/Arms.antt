@@ -7,7 +7,7 @@ use Rattle.labels.specs.Words.{word_at}
 use Rattle.wires.specs.Wires.{Grown}
 use Rattle.circuit.specs.Words.{all_below, part}
 use Rattle.circuit.specs.Parts.{Parts}
-use Rattle.circuit.specs.Forms.{is_table, fan_in, fan_out, reads}
+use Rattle.circuit.specs.Forms.{is_table, fan_in, fan_out, reads, by_form}
 use Rattle.circuit.specs.Gates.{form_of, operand_of, rows_from, made_before}
 use Rattle.circuit.specs.Material.{gate_bytes}
 use Rattle.circuit.specs.Lent.{parts_in, GateAt, new_in, operands_in}
@@ -21,10 +21,9 @@ use Rattle.gates.specs.Bytes.{bytes_at}
 use Rattle.material.specs.Size.{bytes_of}
 use Rattle.material.proofs.Sizes.{whole_bytes}
 use Rattle.tables.specs.Gate.{material_for, zeros_for, evaluated, garbler_calls, evaluator_calls}
-use Rattle.tables.specs.Material.{listed}
-use Rattle.tables.specs.Table.{places}
+use Rattle.labels.specs.Lists.{listed, places}
 use Rattle.tables.proofs.Packing.{listed_ext}
-use Rattle.steps.specs.Gate.{by_form, rows_in, operand_labels, new_zeros, gate_material, new_labels, garble_calls, evaluate_calls}
+use Rattle.steps.specs.Gate.{rows_in, operand_labels, new_zeros, gate_material, new_labels, garble_calls, evaluate_calls}
 
 -- the three forms
 pub at_xor : {X : Type 0} (form : ℕ) (x a t : X) → form ≡ 0 → by_form form x a t ≡ x

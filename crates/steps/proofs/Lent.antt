@@ -5,7 +5,7 @@ use borrow.Rule.Slice.PartMut.{put_mid}
 use Rattle.labels.specs.Kind.{Kind}
 use Rattle.wires.specs.Wires.{Grown}
 use Rattle.wires.proofs.Growth.{put_grown}
-use Rattle.tables.specs.Table.{places}
+use Rattle.labels.specs.Lists.{places}
 
 module _ {L : Type 0} (K : Kind L) (made m : ℕ) (wires : List L) (room : made + m ≤ length wires) where
   -- as many are lent as the gate makes

@@ -4,17 +4,12 @@ use Rattle.labels.specs.Kind.{Kind}
 use Rattle.labels.specs.Words.{word_at}
 use Rattle.circuit.specs.Words.{part}
 use Rattle.circuit.specs.Parts.{Parts}
-use Rattle.circuit.specs.Forms.{fan_in, fan_out, reads}
+use Rattle.circuit.specs.Forms.{fan_in, fan_out, reads, by_form}
 use Rattle.circuit.specs.Gates.{form_of, operand_of, rows_from}
 use Rattle.gates.specs.Bytes.{bytes_at}
 use Rattle.gates.specs.Half.{garbled, joined}
 use Rattle.tables.specs.Gate.{material_for, zeros_for, evaluated, garbler_calls, evaluator_calls}
-use Rattle.tables.specs.Material.{listed}
-use Rattle.tables.specs.Table.{places}
-
--- what a gate has by its form: XOR, AND or a table
-abbrev pub by_form : {X : Type 0} → ℕ → X → X → X → X
-by_form form xor and table = cond (form == 0) xor (cond (form == 1) and table)
+use Rattle.labels.specs.Lists.{listed, places}
 
 -- the label on the wire of operand j, and those of all operands, from the labels on the wires
 abbrev pub label_on : {L : Type 0} → Kind L → List L → List ℕ → ℕ → L

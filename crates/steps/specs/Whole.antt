@@ -5,7 +5,7 @@ use Rattle.hashes.specs.Draws.{offset, input_zero}
 use Rattle.wires.specs.Wires.{wire_after}
 use Rattle.circuit.specs.Parts.{Parts}
 use Rattle.circuit.specs.Gates.{made_before}
-use Rattle.tables.specs.Table.{places}
+use Rattle.labels.specs.Lists.{places}
 use Rattle.steps.specs.Gate.{new_zeros, gate_material, new_labels}
 
 module _ {L : Type 0} (K : Kind L) (F : L → ℕ → L) (seed : L) (c : Parts) where

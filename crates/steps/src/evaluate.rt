@@ -12,7 +12,7 @@ ghost use Rattle.gates.specs.Bytes.{bytes_at};
 ghost use Rattle.gates.specs.Half.{joined};
 ghost use Rattle.material.specs.Size.{bytes_of};
 ghost use Rattle.tables.specs.Gate.{evaluated, evaluator_calls};
-ghost use Rattle.tables.specs.Table.{places};
+ghost use Rattle.labels.specs.Lists.{places};
 ghost use Rattle.steps.specs.Gate.{label_on, labels_on, new_labels, evaluate_calls};
 
 use crate::operands::{eight_fit, operand, read_operands};

@@ -11,7 +11,7 @@ ghost use Rattle.circuit.specs.Lent.{parts_in};
 ghost use Rattle.gates.specs.Half.{garbled};
 ghost use Rattle.material.specs.Size.{bytes_of};
 ghost use Rattle.tables.specs.Gate.{material_for, zeros_for, garbler_calls};
-ghost use Rattle.tables.specs.Table.{places};
+ghost use Rattle.labels.specs.Lists.{places};
 ghost use Rattle.steps.specs.Gate.{label_on, labels_on, new_zeros, gate_material, garble_calls};
 
 use crate::operands::{eight_fit, operand, read_operands};

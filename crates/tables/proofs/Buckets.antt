@@ -6,7 +6,8 @@ use Rattle.std.proofs.lemmas.List.{get_or-set_same, get_or-set_other}
 use Rattle.std.proofs.lemmas.Nat.{mod_below, shr_le}
 use Rattle.labels.specs.Kind.{Kind, times}
 use Rattle.labels.proofs.Group.{group}
-use Rattle.tables.specs.Table.{places, sum, chosen}
+use Rattle.labels.specs.Lists.{places}
+use Rattle.tables.specs.Table.{sum, chosen}
 use Rattle.tables.specs.Level.{bucket, Sorted}
 use Rattle.tables.proofs.Numbering.{mod_longer}
 use Rattle.labels.proofs.Numbers.{two_pow}

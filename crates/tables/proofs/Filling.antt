@@ -2,7 +2,7 @@
 use Rattle.std.proofs.Common.{◌≡◌, ℕ, ◌+◌, ◌<◌, ◌≤◌, List, length, get_or, set, sym, ap, ◌∙◌, inl, inr, arith, get_or-set_other, get_or-set_same}
 use Rattle.std.proofs.lemmas.Bool.{cases_eq}
 use Rattle.labels.specs.Kind.{Kind}
-use Rattle.tables.specs.Table.{places}
+use Rattle.labels.specs.Lists.{places}
 use Rattle.tables.specs.Level.{Holds}
 
 -- v is V from the place n on

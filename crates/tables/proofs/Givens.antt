@@ -8,7 +8,8 @@ use Rattle.std.proofs.lemmas.Bool.{cases_lt}
 use Rattle.labels.specs.Kind.{Kind, times}
 use Rattle.labels.specs.Numbers.{bit}
 use Rattle.tables.specs.Mixed.{mixed}
-use Rattle.tables.specs.Table.{places, masked, level, picked, halved, given, random}
+use Rattle.labels.specs.Lists.{places}
+use Rattle.tables.specs.Table.{masked, level, picked, halved, given, random}
 use Rattle.tables.specs.Level.{Holds, Numbered}
 use Rattle.tables.proofs.Numbering.{mixed_ext}
 use Rattle.labels.proofs.Numbers.{two_pow}

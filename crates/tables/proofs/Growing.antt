@@ -4,7 +4,8 @@ use borrow.Author.Rules.{get_or_read}
 use Rattle.std.proofs.lemmas.Bool.{cases_lt, cases_eq, lt-ltb, le-ltb, eq-eqb, ne_eqb}
 use Rattle.labels.specs.Kind.{Kind}
 use Rattle.labels.proofs.Group.{group}
-use Rattle.tables.specs.Table.{places, grown, filled, sum}
+use Rattle.labels.specs.Lists.{places}
+use Rattle.tables.specs.Table.{grown, filled, sum}
 use Rattle.tables.specs.Level.{between, Grew}
 use Rattle.tables.proofs.Sums.{sum_off}
 

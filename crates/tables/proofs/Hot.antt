@@ -3,7 +3,8 @@ use Rattle.std.proofs.Common.{◌≡◌, ℕ, zero, suc, ◌+◌, ◌-◌, ◌*�
 use Rattle.std.proofs.lemmas.Bool.{cases_lt, lt-ltb, le-ltb}
 use Rattle.gates.specs.Tweak.{tweak}
 use Rattle.labels.specs.Kind.{Kind}
-use Rattle.tables.specs.Table.{places, sum, grown, filled, hashed, hot, hot_row, seen, colours}
+use Rattle.labels.specs.Lists.{places}
+use Rattle.tables.specs.Table.{sum, grown, filled, hashed, hot, hot_row, seen, colours}
 use Rattle.tables.specs.Level.{Holds}
 use Rattle.labels.proofs.Numbers.{two_pow}
 use Rattle.tables.proofs.Sums.{sum_ext}

@@ -5,7 +5,8 @@ use Rattle.std.proofs.lemmas.List.{get_or_append_left, length-take-le}
 use Rattle.gates.specs.Tweak.{tweak}
 use Rattle.labels.specs.Kind.{Kind, times}
 use Rattle.labels.specs.Numbers.{bit}
-use Rattle.tables.specs.Table.{places, sum, chosen, masked, picked, halved, taken, seen, found}
+use Rattle.labels.specs.Lists.{places}
+use Rattle.tables.specs.Table.{sum, chosen, masked, picked, halved, taken, seen, found}
 use Rattle.tables.specs.Level.{Holds}
 use Rattle.tables.proofs.Numbering.{fits_eight}
 use Rattle.labels.proofs.Numbers.{two_pow}

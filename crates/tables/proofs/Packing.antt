@@ -7,7 +7,8 @@ use Rattle.std.proofs.lemmas.List.{take_more, take_all, length_push, get_or_push
 use Rattle.std.proofs.lemmas.Bool.{cases_eq, cases_lt, lt-ltb, le-ltb}
 use Rattle.labels.specs.Numbers.{bit, number}
 use Rattle.material.specs.Size.{in_bytes}
-use Rattle.tables.specs.Material.{listed, stream, packed, bit_at, unpacked}
+use Rattle.labels.specs.Lists.{listed}
+use Rattle.tables.specs.Material.{stream, packed, bit_at, unpacked}
 use Rattle.tables.specs.Level.{Packing}
 use Rattle.tables.proofs.Numbering.{number_bit, number_low, number_of, number_split, number_field}
 use Rattle.labels.proofs.Numbers.{number_below, number_same}

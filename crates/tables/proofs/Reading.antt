@@ -7,7 +7,8 @@ use Rattle.std.proofs.lemmas.Bool.{cases_lt}
 use Rattle.labels.specs.Kind.{Kind}
 use Rattle.gates.specs.Bytes.{bytes_at}
 use Rattle.material.specs.Size.{labels_of}
-use Rattle.tables.specs.Material.{each, packed, row_bytes, written}
+use Rattle.labels.specs.Lists.{each}
+use Rattle.tables.specs.Material.{packed, row_bytes, written}
 use Rattle.tables.proofs.Masks.{next_row, rows_within}
 
 -- strings of equal length, one after another

@@ -4,8 +4,9 @@ use Rattle.labels.specs.Kind.{Kind, times}
 use Rattle.hashes.specs.Draws.{draw}
 use Rattle.labels.specs.Numbers.{bit, number}
 use Rattle.labels.specs.Words.{word_at}
-use Rattle.tables.specs.Table.{places, based, colours, hot, hot_row, mask_row, turned, made, found}
-use Rattle.tables.specs.Material.{listed, written, one_hot_rows, mask_rows, table_rows}
+use Rattle.tables.specs.Table.{based, colours, hot, hot_row, mask_row, turned, made, found}
+use Rattle.labels.specs.Lists.{listed, places}
+use Rattle.tables.specs.Material.{written, one_hot_rows, mask_rows, table_rows}
 
 module _ {L : Type 0} (K : Kind L) (F : L → ℕ → L) (g n m : ℕ) where
   -- s: the m lowest bits of draw 2048 + g

@@ -1,8 +1,9 @@
 -- What the loops of the table gate keep of memory. Assumes nothing.
 use Rattle.std.specs.Prelude.{◌≡◌, ℕ, suc, ◌+◌, ◌-◌, ◌*◌, ◌/◌, ◌%◌, ◌^◌, ◌<◌, ◌≤◌, Bool, cond, List, ◌==◌, slice_index}
 use Rattle.labels.specs.Kind.{Kind, times}
-use Rattle.labels.specs.Numbers.{number}
-use Rattle.tables.specs.Table.{places, based, sum, picked}
+use Rattle.labels.specs.Numbers.{number, digit}
+use Rattle.labels.specs.Lists.{places}
+use Rattle.tables.specs.Table.{based, sum, picked}
 use Rattle.tables.specs.Material.{stream}
 
 module _ {L : Type 0} (K : Kind L) where
@@ -37,7 +38,7 @@ module _ {L : Type 0} (K : Kind L) where
   -- the garbler's numbers h(b,i) of the levels up to n: those of level p + 1 and b from the place 2^(p+1) + b × 2^p on
   abbrev pub Numbered : (L → ℕ → L) → ℕ → ℕ → ℕ → L → (ℕ → L) → List ℕ → Type 0
   Numbered F g m n Δ B nums =
-      (p : ℕ) → p < n → (b : Bool) (i : ℕ) → i < 2 ^ p → slice_index nums (2 ^ suc p + (cond b 1 0 * 2 ^ p + i)) ≡ picked K F g m (2 ^ p) (K.xor (B p) (times K b Δ)) i
+      (p : ℕ) → p < n → (b : Bool) (i : ℕ) → i < 2 ^ p → slice_index nums (2 ^ suc p + (digit b * 2 ^ p + i)) ≡ picked K F g m (2 ^ p) (K.xor (B p) (times K b Δ)) i
 
 -- the first `at` bytes are those of the w rows f of m bits, and `bits` is the number of the next `count` bits
 pub record Packing (w m : ℕ) (f : ℕ → ℕ) (at count bits : ℕ) (bytes : List ℕ) : Type 0 where

@@ -1,18 +1,10 @@
 -- A table gate's material in bytes: rows of labels, then a table of bits. Assumes nothing.
-use Rattle.std.specs.Prelude.{ℕ, zero, suc, ◌+◌, ◌-◌, ◌*◌, ◌/◌, ◌%◌, ◌^◌, Bool, false, cond, List, [], ◌∷◌, ◌++◌, drop, nat_lt, slice_index}
+use Rattle.std.specs.Prelude.{ℕ, zero, suc, ◌+◌, ◌-◌, ◌*◌, ◌/◌, ◌%◌, ◌^◌, Bool, false, cond, List, ◌++◌, drop, nat_lt, slice_index}
 use Rattle.labels.specs.Kind.{Kind}
 use Rattle.gates.specs.Bytes.{bytes_at}
 use Rattle.material.specs.Size.{in_bytes, labels_of}
 use Rattle.labels.specs.Numbers.{bit, number}
-
--- f 0, f 1, up to f (n - 1), one after another
-abbrev pub each : {X : Type 0} → ℕ → (ℕ → List X) → List X
-each zero f = []
-each (suc n) f = each n f ++ f n
-
--- the list f 0, f 1, up to f (n - 1)
-abbrev pub listed : {X : Type 0} → ℕ → (ℕ → X) → List X
-listed n f = each n (λ i. f i ∷ [])
+use Rattle.labels.specs.Lists.{each, listed}
 
 -- bit p of w rows of m bits, row after row, the lowest bit first, with zero bits past the last row
 abbrev pub stream : ℕ → ℕ → (ℕ → ℕ) → ℕ → Bool

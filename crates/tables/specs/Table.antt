@@ -1,16 +1,12 @@
 -- The lookup-table gate over any label kind and any function F of a label and a tweak, as gate g. Assumes nothing.
 -- A list of labels, as V or the operands, is a function of the place.
-use Rattle.std.specs.Prelude.{ℕ, zero, suc, ◌+◌, ◌-◌, ◌*◌, ◌%◌, ◌^◌, Bool, true, false, cond, List, ◌==◌, bit_xor, nat_lt, slice_index_or}
+use Rattle.std.specs.Prelude.{ℕ, zero, suc, ◌+◌, ◌-◌, ◌*◌, ◌%◌, ◌^◌, Bool, true, false, cond, List, ◌==◌, bit_xor, nat_lt}
 use Rattle.labels.specs.Kind.{Kind, times}
 use Rattle.gates.specs.Tweak.{tweak}
-use Rattle.labels.specs.Numbers.{bit, number}
+use Rattle.labels.specs.Numbers.{bit, number, digit}
 use Rattle.tables.specs.Mixed.{mixed}
 
 module _ {L : Type 0} (K : Kind L) where
-  -- a list of labels as a function of the place
-  abbrev pub places : List L → ℕ → L
-  places V i = slice_index_or V i K.zero
-
   -- the ⊕ of f 0 to f (n - 1)
   abbrev pub sum : ℕ → (ℕ → L) → L
   sum zero f = K.zero
@@ -65,11 +61,11 @@ module _ {L : Type 0} (K : Kind L) where
 
     -- S(b,j) ⊕ M(b,j) at level l, where w = 2^(l-1), from the numbers N = h(b,·) and the key K(b)
     abbrev pub masked : ℕ → ℕ → (ℕ → ℕ) → L → Bool → (ℕ → L) → ℕ → L
-    masked l w N key b V j = K.xor (chosen j w N (λ i. V (cond b 1 0 * w + i))) (F key (tweak g (512 + 16 * l + j)))
+    masked l w N key b V j = K.xor (chosen j w N (λ i. V (digit b * w + i))) (F key (tweak g (512 + 16 * l + j)))
 
     -- the same for the garbler: both halves of N, and the keys K(b) = B ⊕ b·Δ
     abbrev pub level : ℕ → ℕ → L → L → (ℕ → ℕ) → (ℕ → L) → Bool → ℕ → L
-    level l w Δ B N V b j = masked l w (λ i. N (cond b 1 0 * w + i)) (K.xor B (times K b Δ)) b V j
+    level l w Δ B N V b j = masked l w (λ i. N (digit b * w + i)) (K.xor B (times K b Δ)) b V j
 
     module _ (m : ℕ) where
       -- Step 2. Random function, at a level l, where w = 2^(l-1): h(b,i) under the key K(b)

@@ -1,12 +1,13 @@
 // Step 2 of the evaluator, level by level: the new wires' parts, and the halvings of V.
-ghost use Rattle.std.specs.Prelude.{◌≡◌, ◌+◌, ◌-◌, ◌*◌, ◌/◌, ◌^◌, ◌<◌, ◌≤◌, ℕ, length, slice_index};
+ghost use Rattle.std.specs.Prelude.{◌≡◌, ◌+◌, ◌-◌, ◌*◌, ◌/◌, ◌^◌, ◌<◌, ◌≤◌, length, slice_index};
 ghost use Rattle.labels.specs.Kind.{times as scaled};
 ghost use Rattle.tables.specs.Level.{Holds};
 ghost use Rattle.material.specs.Size.{labels_of};
 ghost use Rattle.tables.specs.Material.{row_at, mask_rows};
 ghost use Rattle.tables.specs.Ran.{Ran};
 ghost use Rattle.std.specs.Mem.{type_size};
-ghost use Rattle.tables.specs.Table.{places, masked, sum, taken};
+ghost use Rattle.labels.specs.Lists.{places};
+ghost use Rattle.tables.specs.Table.{masked, sum, taken};
 
 use crate::number::{level_after, weight};
 use crate::one_level::{Level, halve, mask};

@@ -5,7 +5,8 @@ ghost use Rattle.material.specs.Size.{labels_of};
 ghost use Rattle.tables.specs.Material.{row_bytes};
 ghost use Rattle.tables.specs.Ran.{Ran};
 ghost use Rattle.std.specs.Mem.{type_size};
-ghost use Rattle.tables.specs.Table.{places, level as level_of, sum, given as share_of, mask_row};
+ghost use Rattle.labels.specs.Lists.{places};
+ghost use Rattle.tables.specs.Table.{level as level_of, sum, given as share_of, mask_row};
 
 use crate::number::{base, level_after};
 use crate::one_level::{Level, halve, mask};

@@ -9,7 +9,8 @@ ghost use Rattle.tables.specs.Material.{row_bytes};
 ghost use Rattle.tables.specs.Ran.{Ran};
 ghost use Rattle.std.specs.Mem.{type_size};
 ghost use Rattle.labels.specs.Words.{word_at};
-ghost use Rattle.tables.specs.Table.{places, colours as of_colours, hot, hot_row, mask_row, turned, made};
+ghost use Rattle.labels.specs.Lists.{places};
+ghost use Rattle.tables.specs.Table.{colours as of_colours, hot, hot_row, mask_row, turned, made};
 
 use crate::evaluate_levels::evaluate_levels;
 use crate::garble_levels::garble_levels;

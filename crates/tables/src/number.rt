@@ -1,7 +1,8 @@
 // Numbers from the colours of labels, and labels of colour 0.
-ghost use Rattle.std.specs.Prelude.{◌≡◌, ℕ, ◌+◌, ◌*◌, ◌<◌, ◌≤◌, length, if◌then◌else◌};
-ghost use Rattle.labels.specs.Numbers.{bit};
-ghost use Rattle.tables.specs.Table.{places, based, colours as of_colours};
+ghost use Rattle.std.specs.Prelude.{◌≡◌, ◌+◌, ◌*◌, ◌<◌, ◌≤◌, length};
+ghost use Rattle.labels.specs.Numbers.{bit, digit};
+ghost use Rattle.labels.specs.Lists.{places};
+ghost use Rattle.tables.specs.Table.{based, colours as of_colours};
 
 use gates::scale::times;
 use labels::kind::Label;
@@ -16,7 +17,7 @@ pub fn has_bit(word: u16, j: usize) -> bool
 
 // b × w
 pub fn weight(b: bool, w: usize) -> usize
-    ensures value { result ≡ (if b then 1 else 0) * w }
+    ensures value { result ≡ digit b * w }
     ensures within { result ≤ w }
 {
     usize::from(b) * w

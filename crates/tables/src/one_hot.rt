@@ -3,7 +3,8 @@ ghost use Rattle.std.specs.Prelude.{◌≡◌, ℕ, suc, ◌+◌, ◌-◌, ◌*�
 ghost use Rattle.tables.specs.Level.{bases, between, Grew, Holds};
 ghost use Rattle.tables.specs.Material.{row_bytes, one_hot_rows};
 ghost use Rattle.tables.specs.Ran.{Ran};
-ghost use Rattle.tables.specs.Table.{places, sum, hashed, grown, filled, hot, seen, hot_row};
+ghost use Rattle.labels.specs.Lists.{places};
+ghost use Rattle.tables.specs.Table.{sum, hashed, grown, filled, hot, seen, hot_row};
 
 use crate::number::{base, weight};
 use crate::rows::{get_row, put_row};

@@ -3,7 +3,7 @@ ghost use Rattle.std.specs.Prelude.{◌≡◌, ◌+◌, ◌*◌, ◌/◌, ◌<�
 ghost use Rattle.gates.specs.Tweak.{tweak as at_point};
 ghost use Rattle.tables.specs.Level.{Holds};
 ghost use Rattle.tables.specs.Ran.{Ran};
-ghost use Rattle.tables.specs.Table.{places};
+ghost use Rattle.labels.specs.Lists.{places};
 
 use gates::tweak::tweak;
 use hashes::hash::LabelHash;

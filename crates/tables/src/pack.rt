@@ -1,5 +1,5 @@
 // The masked table f' in bytes: row after row, the lowest bit first.
-ghost use Rattle.std.specs.Prelude.{◌≡◌, ℕ, ◌+◌, ◌*◌, ◌/◌, ◌%◌, ◌^◌, ◌<◌, ◌≤◌, length, slice_index, EachIndex};
+ghost use Rattle.std.specs.Prelude.{◌≡◌, ℕ, ◌+◌, ◌*◌, ◌%◌, ◌^◌, ◌<◌, ◌≤◌, length, slice_index, EachIndex};
 ghost use Rattle.tables.specs.Level.{Packing};
 ghost use Rattle.material.specs.Size.{in_bytes};
 ghost use Rattle.tables.specs.Material.{packed as in_order, bit_at, unpacked};

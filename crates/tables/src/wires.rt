@@ -3,7 +3,8 @@ ghost use Rattle.std.specs.Prelude.{◌≡◌, ℕ, ◌+◌, ◌*◌, ◌/◌, �
 ghost use Rattle.labels.specs.Kind.{times as scaled};
 ghost use Rattle.tables.specs.Level.{bucket, Sorted, Holds};
 ghost use Rattle.labels.specs.Numbers.{bit};
-ghost use Rattle.tables.specs.Table.{places, sum, chosen};
+ghost use Rattle.labels.specs.Lists.{places};
+ghost use Rattle.tables.specs.Table.{sum, chosen};
 ghost use Rattle.std.specs.Mem.{type_size};
 
 use crate::number::has_bit;

@@ -1,5 +1,5 @@
 use Rattle.std.proofs.Common.{◌≡◌}
-use Rattle.tables.specs.Material.{listed}
+use Rattle.labels.specs.Lists.{listed}
 use Rattle.exchange.specs.Course.{course}
 use Rattle.exchange.proofs.calls.all_calls.Given as goal
 

@@ -19,8 +19,8 @@ returns-clause-opened g c =
     sym (only_opening g.L.Label.kind g.F.LabelFunction.means c.args.circuit.now c.args.seed.now bits c.args.copy.now _ _ c.args.lent.now c.args.calls.now c.args.lines.now plan) ∙ e)
     c.settle.ensures.accepted
 
-pub returns-clause-refused : goal.returns-clause-refused
-returns-clause-refused g c =
+pub returns-clause-opening : goal.returns-clause-opening
+returns-clause-opening g c =
     IfErr-weaker c.settle.result _ _ (λ why e bits plan.
     sym (only_opening g.L.Label.kind g.F.LabelFunction.means c.args.circuit.now c.args.seed.now bits c.args.copy.now _ _ c.args.lent.now c.args.calls.now c.args.lines.now plan) ∙ e)
     c.settle.ensures.refused

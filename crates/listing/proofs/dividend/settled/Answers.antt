@@ -103,6 +103,6 @@ returns-in-Err-run c =
     })
     c.new-garbler.ensures.side c.new-evaluator.ensures c.as_mut_slice-8.ensures.value c.as_slice-calls.ensures.value c.as_mut_slice-lines.ensures.value in
     let seed : c.as_mut_slice-9.result.now ≡ c.args.seed.now = c.as_mut_slice-9.ensures.value ∙ f.seed_is in
-    let opened = subst (λ (s : List ℕ). open_refusal unused bytes long aes_hash (wires_in (parts_of bytes)) s ≡ Some c.in-Err-run.why) seed (c.in-Err-run.ensures.refused bits plan) in
+    let opened = subst (λ (s : List ℕ). open_refusal unused bytes long aes_hash (wires_in (parts_of bytes)) s ≡ Some c.in-Err-run.why) seed (c.in-Err-run.ensures.opening bits plan) in
     let why = then_opening long aes_hash bytes c.args.seed.now bits (Some c.in-Err-run.why) f.accepted opened in
     IfOk-weaker c.refused-in-Err-run.result _ _ (λ t e. e ∙ ap (λ (r : Option Refusal). text_unless r (settle_lines bytes c.args.seed.now c.args.first c.args.second)) (sym why)) c.refused-in-Err-run.ensures

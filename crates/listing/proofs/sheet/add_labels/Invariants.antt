@@ -1,6 +1,6 @@
 use Rattle.std.proofs.Common.{◌≡◌, false, ◌++◌, get_or, string_bytes}
 use Rattle.labels.specs.Papers.{paper}
-use Rattle.tables.specs.Table.{places}
+use Rattle.labels.specs.Lists.{places}
 use Rattle.listing.specs.Sheet.{label_lines}
 use Rattle.listing.proofs.sheet.add_labels.Given as goal
 

@@ -6,8 +6,8 @@ use Rattle.settlement.proofs.next_gate.evaluate.Goals as goal
 
 pub returns-in-Ok-clause-made : goal.returns-in-Ok-clause-made
 returns-in-Ok-clause-made g c = λ F garbler circuit shown count copied far.
-    let b = c.read-before.ensures in
-    let a = c.read.ensures in
+    let b = c.bytes_read-before.ensures in
+    let a = c.bytes_read.ensures in
     let read = part_same c.min-written.result c.args.lent.now.material.now (take c.min-written.result c.args.lent.now.material.now) refl in
     let few = c.min-written.ensures ∙ ap (λ (k : ℕ). min k (length c.args.lent.now.material.now)) far in
     evaluate_accepted g.L.Label.kind F _ circuit c.args.copy.now copied

@@ -7,8 +7,8 @@ use Rattle.settlement.proofs.next_gate.garble.Goals as goal
 pub returns-in-Ok-clause-made : goal.returns-in-Ok-clause-made
 returns-in-Ok-clause-made g c = λ E evaluator shown count.
     let e = c.in-Ok.ensures.secrets in
-    let b = c.written-before.ensures in
-    let a = c.written.ensures in
+    let b = c.bytes_written-before.ensures in
+    let a = c.bytes_written.ensures in
     garble_accepted g.L.Label.kind _ E c.args.circuit.now
     (held_by c.args.garbler.now evaluator c.args.lent.now shown (g.G.LabelHash.calls c.args.h.now) count)
     c.args.scratch c.args.material c.min-scratch.result c.min-material.result c.min-scratch.ensures c.min-material.ensures

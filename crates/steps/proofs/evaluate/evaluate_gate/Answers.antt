@@ -6,7 +6,7 @@ use Rattle.circuit.specs.declared.gate.Gate.{Gate}
 use Rattle.circuit.proofs.GateParts.{gate_makes}
 use Rattle.material.specs.Size.{bytes_of}
 use Rattle.tables.specs.Gate.{evaluator_calls}
-use Rattle.tables.specs.Table.{places}
+use Rattle.labels.specs.Lists.{places}
 use Rattle.steps.proofs.Arms.{grown_as, reads_made, room_for, two_operands, xor_labels, and_labels, table_labels, half, xor_calls, and_calls, table_calls, table_bytes}
 use Rattle.steps.proofs.evaluate.evaluate_gate.Goals as goal
 

@@ -1,6 +1,6 @@
 use Rattle.std.proofs.Common.{◌≡◌, ◌/◌, length, ap, ◌∙◌}
 use Rattle.tables.specs.Gate.{evaluated}
-use Rattle.tables.specs.Table.{places}
+use Rattle.labels.specs.Lists.{places}
 use Rattle.tables.proofs.Packing.{length_listed}
 use Rattle.steps.proofs.Lent.{lent_long, lent_grown}
 use Rattle.steps.proofs.evaluate.evaluate_table.Goals as goal

@@ -7,7 +7,7 @@ use Rattle.circuit.specs.declared.gate.Gate.{Gate}
 use Rattle.circuit.proofs.GateParts.{gate_makes}
 use Rattle.material.specs.Size.{bytes_of}
 use Rattle.tables.specs.Gate.{garbler_calls}
-use Rattle.tables.specs.Table.{places}
+use Rattle.labels.specs.Lists.{places}
 use Rattle.steps.proofs.Arms.{grown_as, reads_made, room_for, two_operands, xor_zeros, and_zeros, table_zeros, half, xor_calls, and_calls, table_calls, table_bytes, xor_material, and_material, table_material, xor_bytes}
 use Rattle.steps.proofs.garble.garble_gate.Goals as goal
 

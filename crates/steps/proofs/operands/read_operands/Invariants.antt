@@ -1,5 +1,5 @@
 use Rattle.std.proofs.Common.{◌≡◌, ℕ, ◌<◌}
-use Rattle.tables.specs.Table.{places}
+use Rattle.labels.specs.Lists.{places}
 use Rattle.steps.specs.Gate.{label_on}
 use Rattle.steps.proofs.operands.read_operands.Given as goal
 

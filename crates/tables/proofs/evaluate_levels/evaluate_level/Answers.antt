@@ -2,7 +2,8 @@ use Rattle.std.proofs.Common.{◌≡◌, ℕ, ◌+◌, ◌-◌, ◌*◌, ◌%◌
 use Rattle.std.proofs.lemmas.Nat.{one_shl}
 use Rattle.gates.specs.Tweak.{tweak}
 use Rattle.labels.specs.Kind.{times}
-use Rattle.tables.specs.Table.{places, masked}
+use Rattle.labels.specs.Lists.{places}
+use Rattle.tables.specs.Table.{masked}
 use Rattle.tables.proofs.Filling.{holds_more, past_set}
 use Rattle.tables.proofs.Growing.{read_place}
 use Rattle.tables.proofs.Masks.{level_twice, masked_part, rows_counted}

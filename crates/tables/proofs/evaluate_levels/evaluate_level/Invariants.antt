@@ -4,7 +4,8 @@ use Rattle.tables.specs.Level.{Holds}
 use Rattle.tables.proofs.Filling.{TailKept}
 use Rattle.tables.specs.Material.{row_at}
 use Rattle.tables.specs.Ran.{Ran}
-use Rattle.tables.specs.Table.{places, masked}
+use Rattle.labels.specs.Lists.{places}
+use Rattle.tables.specs.Table.{masked}
 use Rattle.tables.proofs.evaluate_levels.evaluate_level.Given as goal
 
 abbrev pub invariant-loop-j : goal.invariant-loop-j

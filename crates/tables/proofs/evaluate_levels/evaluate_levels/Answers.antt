@@ -1,6 +1,7 @@
 use Rattle.std.proofs.Common.{◌≡◌, ℕ, suc, ◌+◌, ◌-◌, ◌*◌, ◌%◌, ◌^◌, ◌<◌, length, get_or, take, refl, ap, ◌∙◌, sym, arith}
 use Rattle.std.proofs.lemmas.List.{length-take-le}
-use Rattle.tables.specs.Table.{places, taken}
+use Rattle.labels.specs.Lists.{places}
+use Rattle.tables.specs.Table.{taken}
 use Rattle.tables.specs.Material.{row_at}
 use Rattle.tables.proofs.Growing.{read_place}
 use Rattle.tables.proofs.Masks.{twice_next, next_row, rows_within, rows_fit, rows_counted, halved_front, taken_level, sum_onto, shifted}

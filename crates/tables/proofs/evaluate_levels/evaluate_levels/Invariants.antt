@@ -2,7 +2,8 @@ use Rattle.std.proofs.Common.{◌≡◌, ◌+◌, ◌-◌, ◌*◌, ◌^◌, len
 use Rattle.tables.specs.Level.{Holds}
 use Rattle.tables.specs.Material.{row_at}
 use Rattle.tables.specs.Ran.{Ran}
-use Rattle.tables.specs.Table.{places, sum, halved, taken}
+use Rattle.labels.specs.Lists.{places}
+use Rattle.tables.specs.Table.{sum, halved, taken}
 use Rattle.tables.proofs.evaluate_levels.evaluate_levels.Given as goal
 
 abbrev pub invariant-loop-d : goal.invariant-loop-d

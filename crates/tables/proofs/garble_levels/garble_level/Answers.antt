@@ -4,7 +4,8 @@ use Rattle.std.proofs.lemmas.Nat.{one_shl}
 use Rattle.std.proofs.lemmas.List.{length-take-le}
 use Rattle.gates.specs.Tweak.{tweak}
 use Rattle.tables.specs.Material.{row_bytes}
-use Rattle.tables.specs.Table.{places, level}
+use Rattle.labels.specs.Lists.{places}
+use Rattle.tables.specs.Table.{level}
 use Rattle.tables.proofs.Filling.{holds_more, past_set}
 use Rattle.tables.proofs.Growing.{read_place}
 use Rattle.tables.proofs.Masks.{level_twice, masked_part, rows_counted}

@@ -3,7 +3,8 @@ use Rattle.tables.specs.Level.{Holds}
 use Rattle.tables.proofs.Filling.{TailKept}
 use Rattle.tables.specs.Material.{row_bytes}
 use Rattle.tables.specs.Ran.{Ran}
-use Rattle.tables.specs.Table.{places, level}
+use Rattle.labels.specs.Lists.{places}
+use Rattle.tables.specs.Table.{level}
 use Rattle.tables.proofs.garble_levels.garble_level.Given as goal
 
 abbrev pub invariant-loop-j : goal.invariant-loop-j

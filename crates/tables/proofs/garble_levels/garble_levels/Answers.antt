@@ -2,7 +2,8 @@ use Rattle.std.proofs.Common.{◌≡◌, ℕ, suc, ◌+◌, ◌-◌, ◌*◌, �
 use Rattle.std.proofs.lemmas.Bool.{cases_lt}
 use Rattle.std.proofs.lemmas.List.{length-take-le}
 use Rattle.tables.specs.Level.{bases}
-use Rattle.tables.specs.Table.{places, based, given as part, mask_row}
+use Rattle.labels.specs.Lists.{places}
+use Rattle.tables.specs.Table.{based, given as part, mask_row}
 use Rattle.tables.specs.Material.{row_bytes}
 use Rattle.tables.proofs.Givens.{given_level}
 use Rattle.tables.proofs.Growing.{read_place}

@@ -2,7 +2,8 @@ use Rattle.std.proofs.Common.{◌≡◌, ℕ, ◌+◌, ◌-◌, ◌*◌, ◌^◌
 use Rattle.tables.specs.Level.{bases, Holds}
 use Rattle.tables.specs.Material.{row_bytes}
 use Rattle.tables.specs.Ran.{Ran}
-use Rattle.tables.specs.Table.{places, sum, halved, given as part, mask_row}
+use Rattle.labels.specs.Lists.{places}
+use Rattle.tables.specs.Table.{sum, halved, given as part, mask_row}
 use Rattle.tables.proofs.garble_levels.garble_levels.Given as goal
 
 abbrev pub invariant-loop-d : goal.invariant-loop-d

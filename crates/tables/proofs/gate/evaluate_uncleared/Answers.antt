@@ -3,7 +3,8 @@ use Rattle.std.proofs.lemmas.Nat.{one_shl}
 use Rattle.std.proofs.lemmas.List.{length-take, length-take-le, take_rest}
 use Rattle.material.specs.Size.{labels_of}
 use Rattle.tables.specs.Material.{row_at, unpacked, one_hot_rows, mask_rows, table_rows}
-use Rattle.tables.specs.Table.{places, chosen, found, sum, taken}
+use Rattle.labels.specs.Lists.{places}
+use Rattle.tables.specs.Table.{chosen, found, sum, taken}
 use Rattle.tables.proofs.Gating.{gate_meets}
 use Rattle.tables.proofs.Hot.{more_than, two_fit}
 use Rattle.tables.proofs.Masks.{found_of, chosen_ext, shifted}

@@ -4,7 +4,8 @@ use Rattle.labels.specs.Numbers.{bit}
 use Rattle.labels.specs.Words.{word_at}
 use Rattle.tables.specs.Level.{bases}
 use Rattle.tables.specs.Material.{row_bytes}
-use Rattle.tables.specs.Table.{places, colours, chosen, hot, turned, sum, given, mask_row}
+use Rattle.labels.specs.Lists.{places}
+use Rattle.tables.specs.Table.{colours, chosen, hot, turned, sum, given, mask_row}
 use Rattle.tables.proofs.Hot.{two_fit}
 use Rattle.tables.proofs.Mades.{mask_of, made_with, turned_of}
 use Rattle.labels.proofs.Numbers.{number_below}

@@ -4,7 +4,8 @@ use Rattle.std.proofs.lemmas.List.{length-take}
 use Rattle.tables.specs.Gate.{drawn, material, zero_labels}
 use Rattle.material.specs.Size.{labels_of}
 use Rattle.labels.specs.Words.{word_at}
-use Rattle.tables.specs.Table.{places, made}
+use Rattle.labels.specs.Lists.{places}
+use Rattle.tables.specs.Table.{made}
 use Rattle.tables.proofs.Gating.{material_by}
 use Rattle.tables.proofs.Hot.{two_fit}
 use Rattle.tables.proofs.Numbering.{fits_eight}

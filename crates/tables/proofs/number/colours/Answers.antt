@@ -1,6 +1,6 @@
 use Rattle.std.proofs.Common.{arith, pow_mono}
 use Rattle.std.proofs.lemmas.Nat.{one_shl}
-use Rattle.tables.specs.Table.{places}
+use Rattle.labels.specs.Lists.{places}
 use Rattle.labels.proofs.Numbers.{number_below}
 use Rattle.tables.proofs.number.colours.Goals as goal
 

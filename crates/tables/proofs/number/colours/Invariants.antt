@@ -1,5 +1,6 @@
 use Rattle.std.proofs.Common.{◌≡◌}
-use Rattle.tables.specs.Table.{places, colours}
+use Rattle.labels.specs.Lists.{places}
+use Rattle.tables.specs.Table.{colours}
 use Rattle.tables.proofs.number.colours.Given as goal
 
 abbrev pub invariant-loop-k : goal.invariant-loop-k

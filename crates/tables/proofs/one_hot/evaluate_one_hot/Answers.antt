@@ -1,5 +1,5 @@
 use Rattle.std.proofs.Common.{◌≡◌, ℕ, ◌+◌, ◌-◌, ◌*◌, ◌^◌, cond, length, sym, refl, ap, ◌∙◌, ap₂, add-zero, add-one, arith, length-set}
-use Rattle.tables.specs.Table.{places}
+use Rattle.labels.specs.Lists.{places}
 use Rattle.tables.specs.Material.{row_at, one_hot_rows}
 use Rattle.tables.proofs.Growing.{read_place}
 use Rattle.tables.proofs.Hot.{two_fit, next_fits, more_than, seen_none, seen_more, colours_more}

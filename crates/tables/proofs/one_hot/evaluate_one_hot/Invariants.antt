@@ -2,7 +2,8 @@ use Rattle.std.proofs.Common.{◌≡◌, ◌+◌, ◌-◌, ◌^◌}
 use Rattle.tables.specs.Level.{Holds}
 use Rattle.tables.specs.Material.{one_hot_rows}
 use Rattle.tables.specs.Ran.{Ran}
-use Rattle.tables.specs.Table.{places, seen, colours}
+use Rattle.labels.specs.Lists.{places}
+use Rattle.tables.specs.Table.{seen, colours}
 use Rattle.tables.proofs.one_hot.evaluate_one_hot.Given as goal
 
 abbrev pub invariant-loop-k : goal.invariant-loop-k

@@ -1,6 +1,7 @@
 use Rattle.std.proofs.Common.{◌≡◌, ℕ, ◌+◌, ◌<◌, ◌≤◌, length, ap, ◌∙◌, ap₂, arith}
 use Rattle.gates.specs.Tweak.{tweak}
-use Rattle.tables.specs.Table.{places, hashed}
+use Rattle.labels.specs.Lists.{places}
+use Rattle.tables.specs.Table.{hashed}
 use Rattle.tables.proofs.Growing.{read_place, around}
 use Rattle.tables.proofs.Running.{ran_then}
 use Rattle.tables.proofs.one_hot.grow_around.Goals as goal

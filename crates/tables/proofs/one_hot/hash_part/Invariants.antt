@@ -1,7 +1,8 @@
 use Rattle.std.proofs.Common.{◌≡◌, ◌-◌}
 use Rattle.tables.specs.Level.{between, Grew}
 use Rattle.tables.specs.Ran.{Ran}
-use Rattle.tables.specs.Table.{places, hashed}
+use Rattle.labels.specs.Lists.{places}
+use Rattle.tables.specs.Table.{hashed}
 use Rattle.tables.proofs.one_hot.hash_part.Given as goal
 
 abbrev pub invariant-loop-i : goal.invariant-loop-i

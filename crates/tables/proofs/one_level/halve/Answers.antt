@@ -1,6 +1,6 @@
 use Rattle.std.proofs.Common.{◌/◌, length, refl, sym, ap, ◌∙◌, ap₂, arith}
 use Rattle.std.proofs.lemmas.List.{get_or_append_left, get_or-drop}
-use Rattle.tables.specs.Table.{places}
+use Rattle.labels.specs.Lists.{places}
 use Rattle.tables.proofs.Filling.{holds_more, past_set}
 use Rattle.tables.proofs.Growing.{read_place}
 use Rattle.tables.proofs.Parts.{front_at}

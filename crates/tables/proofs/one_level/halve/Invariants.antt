@@ -1,6 +1,6 @@
 use Rattle.tables.specs.Level.{Holds}
 use Rattle.tables.proofs.Filling.{TailKept}
-use Rattle.tables.specs.Table.{places}
+use Rattle.labels.specs.Lists.{places}
 use Rattle.tables.proofs.one_level.halve.Given as goal
 
 abbrev pub invariant-loop-i : goal.invariant-loop-i

@@ -1,6 +1,6 @@
 use Rattle.std.proofs.Common.{ℕ, length, get_or, refl, ◌∙◌, arith}
 use Rattle.std.proofs.lemmas.List.{get_or-replicate, length-replicate}
-use Rattle.tables.specs.Table.{places}
+use Rattle.labels.specs.Lists.{places}
 use Rattle.tables.proofs.Buckets.{sorted_first}
 use Rattle.tables.proofs.Filling.{holds_none, holds_more}
 use Rattle.tables.proofs.wires.choose.Goals as goal

@@ -1,6 +1,7 @@
 use Rattle.std.proofs.Common.{◌≡◌, get_or, length}
 use Rattle.tables.specs.Level.{Sorted, Holds}
-use Rattle.tables.specs.Table.{places, chosen}
+use Rattle.labels.specs.Lists.{places}
+use Rattle.tables.specs.Table.{chosen}
 use Rattle.tables.proofs.wires.choose.Given as goal
 
 abbrev pub invariant-loop-j : goal.invariant-loop-j

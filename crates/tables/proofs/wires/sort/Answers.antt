@@ -1,7 +1,7 @@
 use Rattle.std.proofs.Common.{length, get_or}
 use Rattle.std.proofs.lemmas.List.{length_push}
 use Rattle.std.proofs.lemmas.Slice.Zip.{zip_turn}
-use Rattle.tables.specs.Table.{places}
+use Rattle.labels.specs.Lists.{places}
 use Rattle.tables.proofs.Buckets.{sorted_more}
 use Rattle.tables.proofs.wires.sort.Goals as goal
 

@@ -1,6 +1,6 @@
 use Rattle.std.proofs.Common.{◌≡◌, ℕ, ◌*◌, ◌/◌, ◌%◌, ◌<◌, length, get_or}
 use Rattle.tables.specs.Level.{bucket}
-use Rattle.tables.specs.Table.{places}
+use Rattle.labels.specs.Lists.{places}
 use Rattle.tables.proofs.wires.sort.Given as goal
 
 abbrev pub invariant-loop-n : goal.invariant-loop-n

@@ -2,7 +2,7 @@ use Rattle.labels.specs.Kind.{times}
 use Rattle.labels.specs.Numbers.{bit}
 use Rattle.tables.specs.Level.{Holds}
 use Rattle.tables.proofs.Filling.{TailKept}
-use Rattle.tables.specs.Table.{places}
+use Rattle.labels.specs.Lists.{places}
 use Rattle.tables.proofs.wires.start_wires.Given as goal
 
 abbrev pub invariant-loop-j : goal.invariant-loop-j

@@ -1,6 +1,7 @@
 use Rattle.std.proofs.Common.{◌≡◌, ℕ, ◌+◌, ◌*◌, ◌<◌}
 use Rattle.tables.proofs.Filling.{TailKept}
-use Rattle.tables.specs.Table.{places, sum}
+use Rattle.labels.specs.Lists.{places}
+use Rattle.tables.specs.Table.{sum}
 use Rattle.tables.proofs.wires.take_bit.Given as goal
 
 abbrev pub invariant-loop-k : goal.invariant-loop-k

@@ -4,7 +4,7 @@ use Rattle.circuit.specs.Gates.{wires_in}
 use Rattle.circuit.specs.Check.{bytes_in}
 use Rattle.circuit.specs.Lent.{parts_in}
 use Rattle.exchange.specs.Course.{calls_in, course}
-use Rattle.tables.specs.Material.{listed}
+use Rattle.labels.specs.Lists.{listed}
 use Rattle.exchange.proofs.room.Room.new.Goals as goal
 
 pub returns : goal.returns

@@ -1,5 +1,5 @@
 -- A bitwise or is below 2^m where all that it is made of are. Assumes nothing.
-use Rattle.std.proofs.Common.{◌≡◌, ℕ, zero, suc, ◌^◌, ◌<◌, ◌≤◌, true, false, ltb, refl, sym, ◌∙◌, inl, inr, arith}
+use Rattle.std.proofs.Common.{◌≡◌, ℕ, zero, suc, ◌^◌, true, false, ltb, refl, sym, ◌∙◌, inl, inr, arith}
 use lib.Bits.{or_lt}
 use Rattle.std.proofs.lemmas.Nat.{pow_pos, le_or_l, le_or_r}
 use Rattle.std.proofs.lemmas.Bool.{cases_lt, lt-ltb, le-ltb}

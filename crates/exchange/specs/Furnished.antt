@@ -2,7 +2,6 @@
 use Rattle.std.specs.Prelude.{◌≡◌, ℕ, List, None}
 use Rattle.labels.specs.Kind.{Kind}
 use Rattle.circuit.specs.Parts.{parts_of}
-use Rattle.circuit.specs.Gates.{wires_in}
 use Rattle.plain.specs.Plain.{bits_refusal}
 use Rattle.exchange.specs.Enough.{Enough}
 use Rattle.exchange.specs.Planned.{calls_of}

@@ -1,10 +1,9 @@
 -- Numbers of bits. Assumes nothing.
-use Rattle.std.proofs.Common.{◌≡◌, ℕ, zero, suc, ◌+◌, ◌*◌, ◌^◌, ◌%◌, ◌<◌, ◌≤◌, Bool, refl, ap, ap₂, inl, inr, arith}
+use Rattle.std.proofs.Common.{◌≡◌, ℕ, suc, ◌+◌, ◌*◌, ◌^◌, ◌%◌, ◌<◌, ◌≤◌, inl, inr, arith}
 use native.Mathlib.Nat.{pow-succ'}
 use Rattle.std.proofs.Math.Pow.{pow_mono}
 use Rattle.std.proofs.lemmas.Nat.{shl_whole}
-use Rattle.std.proofs.lemmas.Bool.{cases_Bool, cases_order}
-use Rattle.labels.specs.Numbers.{digit, number}
+use Rattle.std.proofs.lemmas.Bool.{cases_order}
 
 -- a bit moved up to place j, over a number of j bits
 pub shifted_fits : (j row b w : ℕ) → row < 2 ^ j → b ≤ 1 → j < w → row + b * 2 ^ j % 2 ^ w < 2 ^ w

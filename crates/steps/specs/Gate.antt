@@ -1,5 +1,5 @@
 -- One gate of a circuit on labels: what the garbler and the evaluator make of what the wires carry. Assumes nothing.
-use Rattle.std.specs.Prelude.{ℕ, ◌/◌, ◌^◌, cond, List, [], ◌∷◌, ◌++◌, length, ◌==◌}
+use Rattle.std.specs.Prelude.{ℕ, ◌/◌, ◌^◌, List, [], ◌∷◌, ◌++◌, length}
 use Rattle.labels.specs.Kind.{Kind}
 use Rattle.labels.specs.Words.{word_at}
 use Rattle.circuit.specs.Words.{part}

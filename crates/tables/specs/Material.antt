@@ -1,5 +1,5 @@
 -- A table gate's material in bytes: rows of labels, then a table of bits. Assumes nothing.
-use Rattle.std.specs.Prelude.{ℕ, zero, suc, ◌+◌, ◌-◌, ◌*◌, ◌/◌, ◌%◌, ◌^◌, Bool, false, cond, List, ◌++◌, drop, nat_lt, slice_index}
+use Rattle.std.specs.Prelude.{ℕ, suc, ◌+◌, ◌-◌, ◌*◌, ◌/◌, ◌%◌, ◌^◌, Bool, false, cond, List, ◌++◌, drop, nat_lt, slice_index}
 use Rattle.labels.specs.Kind.{Kind}
 use Rattle.gates.specs.Bytes.{bytes_at}
 use Rattle.material.specs.Size.{in_bytes, labels_of}

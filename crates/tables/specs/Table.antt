@@ -1,6 +1,6 @@
 -- The lookup-table gate over any label kind and any function F of a label and a tweak, as gate g. Assumes nothing.
 -- A list of labels, as V or the operands, is a function of the place.
-use Rattle.std.specs.Prelude.{ℕ, zero, suc, ◌+◌, ◌-◌, ◌*◌, ◌%◌, ◌^◌, Bool, true, false, cond, List, ◌==◌, bit_xor, nat_lt}
+use Rattle.std.specs.Prelude.{ℕ, zero, suc, ◌+◌, ◌-◌, ◌*◌, ◌%◌, ◌^◌, Bool, true, false, cond, ◌==◌, bit_xor, nat_lt}
 use Rattle.labels.specs.Kind.{Kind, times}
 use Rattle.gates.specs.Tweak.{tweak}
 use Rattle.labels.specs.Numbers.{bit, number, digit}

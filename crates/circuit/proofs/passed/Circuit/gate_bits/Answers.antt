@@ -1,5 +1,3 @@
-use Rattle.std.proofs.Common.{◌≡◌, sym, true, ap}
-use Rattle.circuit.specs.Forms.{known}
 use Rattle.circuit.specs.Lent.{parts_in}
 use Rattle.circuit.proofs.Checks.{gate_shape, each_passes}
 use Rattle.circuit.proofs.Shapes.{shape_known}

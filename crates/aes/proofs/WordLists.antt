@@ -1,5 +1,5 @@
 -- Words that are the expansion of a key: one equation of lists, or one for each word. Assumes nothing.
-use Rattle.std.proofs.Common.{◌≡◌, ℕ, ◌+◌, ◌*◌, ◌<◌, ◌≤◌, List, [], length, map, get_or, sym, ap, ◌∙◌, arith, ext_get_or}
+use Rattle.std.proofs.Common.{◌≡◌, ℕ, ◌+◌, ◌*◌, ◌<◌, ◌≤◌, List, [], length, map, get_or, sym, refl, ap, ◌∙◌, arith, ext_get_or}
 use Rattle.std.proofs.lemmas.List.{get_or-map, length-map}
 use Rattle.aes.specs.Bytes.{bytes4}
 use Rattle.aes.specs.Columns.{columns}
@@ -18,11 +18,11 @@ from_words ws vs n e =
     ext_get_or [] (map bytes4 ws) vs (long ∙ n) (λ i h. let k : i < length ws = omega arith in get_or-map bytes4 ws i 0 [] k ∙ e i k)
 
 -- a round key, of the four words from place 4 r on
-pub four_columns : (ws : List ℕ) (key : List ℕ) (r : ℕ) → map bytes4 ws ≡ key_expansion key → length ws ≡ 44 → r < 11
-    → columns (get_or ws (4 * r) 0) (get_or ws (4 * r + 1) 0) (get_or ws (4 * r + 2) 0) (get_or ws (4 * r + 3) 0) ≡ round_key key r
+pub four_columns : (ws : List ℕ) (r : ℕ) → length ws ≡ 44 → r < 11
+    → columns (get_or ws (4 * r) 0) (get_or ws (4 * r + 1) 0) (get_or ws (4 * r + 2) 0) (get_or ws (4 * r + 3) 0) ≡ round_key (map bytes4 ws) r
 unfolding four_words round_key
-four_columns ws key r e n h =
-    let w : (i : ℕ) → i < 44 → bytes4 (get_or ws i 0) ≡ get_or (key_expansion key) i [] = λ i k. at_word ws _ e i (omega arith) in
+four_columns ws r n h =
+    let w : (i : ℕ) → i < 44 → bytes4 (get_or ws i 0) ≡ get_or (map bytes4 ws) i [] = λ i k. at_word ws _ refl i (omega arith) in
     by_columns _ _ _ _ (w (4 * r) (omega arith)) (w (4 * r + 1) (omega arith)) (w (4 * r + 2) (omega arith)) (w (4 * r + 3) (omega arith))
 
 -- the expansion, from all of its words

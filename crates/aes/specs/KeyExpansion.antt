@@ -34,5 +34,6 @@ key_expansion key = schedule key 40
 unfoldable pub four_words : List (List ℕ) → ℕ → List ℕ
 four_words ws i = slice_index_or ws i [] ++ (slice_index_or ws (i + 1) [] ++ (slice_index_or ws (i + 2) [] ++ slice_index_or ws (i + 3) []))
 
-unfoldable pub round_key : List ℕ → ℕ → List ℕ
-round_key key r = four_words (key_expansion key) (4 * r)
+-- the round key r, of the words of an expansion
+unfoldable pub round_key : List (List ℕ) → ℕ → List ℕ
+round_key ws r = four_words ws (4 * r)

@@ -69,18 +69,18 @@ impl RoundKeys {
         }
         RoundKeys { key, words }
     }
+}
 
-    // The round key r; 0 is added before the first round.
-    #[tactic(auto, using(crate::proofs::WordLists::four_columns))]
-    pub(crate) fn at(&self, r: usize) -> Block
-        requires { r < 11 }
-        ensures { bytes_of result ≡ round_key (bytes_of self.now.key) r }
-    {
-        Block {
-            a: self.words[4 * r],
-            b: self.words[4 * r + 1],
-            c: self.words[4 * r + 2],
-            d: self.words[4 * r + 3],
-        }
+// The round key r, of the words of an expansion; 0 is added before the first round.
+#[tactic(auto, using(crate::proofs::WordLists::four_columns))]
+pub(crate) fn round_key(words: &[u32; 44], r: usize) -> Block
+    requires { r < 11 }
+    ensures { bytes_of result ≡ round_key (map bytes4 words.now) r }
+{
+    Block {
+        a: words[4 * r],
+        b: words[4 * r + 1],
+        c: words[4 * r + 2],
+        d: words[4 * r + 3],
     }
 }

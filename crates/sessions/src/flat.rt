@@ -1,11 +1,10 @@
 // A label kind of one byte whose raising does nothing, so that an offset may lack its colour.
 ghost use Rattle.sessions.specs.Flats.{flat};
 
-use hashes::counted::Counted;
 use hashes::function::LabelFunction;
 use labels::kind::Label;
 
-#[derive(Clone, Copy, Debug, PartialEq, Eq)]
+#[derive(Clone, Copy)]
 pub struct Flat {
     pub byte: u8,
 }
@@ -32,7 +31,7 @@ impl Label for Flat {
     }
 
     fn same(self, other: Flat) -> bool {
-        self == other
+        self.byte == other.byte
     }
 
     fn low_bits(self, m: u32) -> u16 {
@@ -55,8 +54,6 @@ impl Label for Flat {
 // The function that answers the label itself, so that the offset is the seed.
 #[derive(Clone, Copy)]
 pub struct SameFunction;
-
-pub type SameHash = Counted<SameFunction>;
 
 impl LabelFunction<Flat> for SameFunction {
     ghost means = { λ label _. label };

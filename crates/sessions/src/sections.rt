@@ -8,7 +8,7 @@ use std::alloc::Global;
 use words::Words;
 
 // Whose labels a section's sides have.
-#[derive(Clone, Copy, PartialEq, Eq)]
+#[derive(Clone, Copy)]
 pub enum Labels {
     // Before the first session.
     None,
@@ -52,14 +52,14 @@ fn add_line<'a>(
 ) -> anyhow::Result<()> {
     let labels = begun(line)?;
     let mut task = Task::Nothing;
-    if labels == Labels::None {
+    if matches!(labels, Labels::None) {
         task = read_task(heap, circuits, line)?;
     } else {
         let entries = Vec::new(heap);
         sections.push(Section { labels, entries })?;
     }
     let section = sections.last_mut().context("no section")?;
-    let waits = section.labels == Labels::None && !matches!(task, Task::Nothing);
+    let waits = matches!(section.labels, Labels::None) && !matches!(task, Task::Nothing);
     ensure!(!waits, "a call before any session");
     section.entries.push(Entry { line, task })?;
     Ok(())

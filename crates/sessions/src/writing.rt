@@ -73,11 +73,10 @@ fn add_scratch<L: Numbered>(
     after: &[L],
 ) -> Result<(), AllocError> {
     let zeros = zeros(after);
-    let mut rest = before.iter().skip(zeros).zip(after.iter().skip(zeros));
-    if rest.all(|(x, y)| x.same(*y)) {
-        return write!(text, "; scratch {zeros} zero");
+    match (before.get(zeros..), after.get(zeros..)) {
+        (Some(old), Some(new)) if same_labels(old, new) => write!(text, "; scratch {zeros} zero"),
+        _ => add_labels(text, "scratch", after),
     }
-    add_labels(text, "scratch", after)
 }
 
 // What a call changed, each as a whole.

@@ -193,6 +193,107 @@ fn fold(v: &mut [Label]) {
     }
 }
 
+/// The m lowest bits.
+fn low_bits(m: usize) -> u16 {
+    ((1u32 << m) - 1) as u16
+}
+
+/// The labels of colour 0, and the number of the colours.
+#[inline]
+fn bases(delta: Label, zeros: &[Label]) -> ([Label; 8], usize) {
+    let mut base = [0; 8];
+    let mut alpha = 0;
+    for (j, zero) in zeros.iter().enumerate() {
+        base[j] = zero ^ times(*zero, delta);
+        alpha |= (zero & 1) as usize * (1 << j);
+    }
+    (base, alpha)
+}
+
+/// Both labels that a one-hot label becomes; answers what is hashed.
+#[inline]
+fn split(gate: u32, place: usize, x: &mut Label, y: &mut Label) -> Label {
+    let c = hash(*x, point(gate, place));
+    *y = c;
+    *x ^= c;
+    c
+}
+
+/// The garbler's one-hot labels, level by level, and their rows of the material.
+#[inline]
+fn garble_one_hot(gate: u32, delta: Label, base: &[Label], v: &mut [Label], material: &mut [u8]) {
+    v[0] = base[0] ^ delta;
+    v[1] = base[0];
+    for (j, base) in base.iter().enumerate().skip(1) {
+        let w = 1 << j;
+        let (front, back) = v[..2 * w].split_at_mut(w);
+        let both = front.iter_mut().zip(back).enumerate();
+        let row = both.fold(*base, |row, (i, (x, y))| row ^ split(gate, w + i, x, y));
+        put_label(material, j - 1, row);
+    }
+}
+
+/// The numbers under one key of a level.
+#[inline]
+fn pick(gate: u32, key: Label, low: u16, numbers: &mut [u16]) {
+    let w = numbers.len();
+    for (i, number) in numbers.iter_mut().enumerate() {
+        *number = hash_low(key, point(gate, 256 + w + i)) & low;
+    }
+}
+
+/// The numbers of each level l, 2^l of them from place 2^l on.
+#[inline]
+fn pick_all(gate: u32, delta: Label, base: &[Label], low: u16) -> [u16; 512] {
+    let mut numbers = [0u16; 512];
+    for (l, base) in base.iter().enumerate() {
+        let w = 1 << l;
+        pick(gate, *base, low, &mut numbers[2 * w..3 * w]);
+        pick(gate, base ^ delta, low, &mut numbers[3 * w..4 * w]);
+    }
+    numbers
+}
+
+/// The random function's number of x, from those of the levels.
+#[inline]
+fn random(s: u16, n: usize, numbers: &[u16], x: usize) -> u16 {
+    (1..=n).fold(s, |f, l| f ^ numbers[(1 << l) + (x & ((1 << l) - 1))])
+}
+
+/// The masked table.
+#[inline]
+fn mask(rows: &[u8], alpha: usize, s: u16, n: usize, numbers: &[u16], masked: &mut [u16]) {
+    for (x, f) in masked.iter_mut().enumerate() {
+        let at = 2 * (x ^ alpha);
+        *f = u16::from_le_bytes([rows[at], rows[at + 1]]) ^ random(s, n, numbers, x);
+    }
+}
+
+/// One level of the garbler's: its rows of the material from a place on, and its parts of the new labels.
+#[inline]
+fn garble_level(
+    gate: u32,
+    l: usize,
+    keys: [Label; 2],
+    numbers: &[u16],
+    v: &[Label],
+    rows: &mut [u8],
+    new: &mut [Label],
+) {
+    let w = 1 << (l - 1);
+    let m = new.len();
+    let mut zero = [0; 16];
+    let mut one = [0; 16];
+    gather(&numbers[2 * w..3 * w], &v[..w], &mut zero[..m]);
+    gather(&numbers[3 * w..4 * w], &v[w..2 * w], &mut one[..m]);
+    for (j, label) in new.iter_mut().enumerate() {
+        let t = point(gate, 512 + 16 * l + j);
+        let part = zero[j] ^ hash(keys[0], t);
+        put_label(rows, j, part ^ one[j] ^ hash(keys[1], t));
+        *label ^= part;
+    }
+}
+
 /// The garbler's step of a table gate: n zero labels, 2^n rows of 2 bytes, the material and m new zero labels.
 pub fn garble_table(
     gate: u32,
@@ -204,121 +305,90 @@ pub fn garble_table(
     new: &mut [Label],
 ) {
     let (n, m) = (zeros.len(), new.len());
-    let low = ((1u32 << m) - 1) as u16;
-    let mut base = [0; 8];
-    let mut alpha = 0;
-    for (j, zero) in zeros.iter().enumerate() {
-        base[j] = zero ^ times(*zero, delta);
-        alpha |= (zero & 1) as usize * (1 << j);
-    }
-    // The one-hot labels.
+    let (base, alpha) = bases(delta, zeros);
+    let base = &base[..n];
     let mut memory = [0; 256];
     let v = &mut memory[..1 << n];
-    v[0] = base[0] ^ delta;
-    v[1] = base[0];
-    for j in 1..n {
-        let w = 1 << j;
-        let (front, back) = v[..2 * w].split_at_mut(w);
-        let mut row = base[j];
-        for (i, (x, y)) in front.iter_mut().zip(back).enumerate() {
-            let c = hash(*x, point(gate, w + i));
-            *y = c;
-            *x ^= c;
-            row ^= c;
-        }
-        put_label(material, j - 1, row);
-    }
-    // The numbers of each level l, 2^l of them from place 2^l on.
-    let mut numbers = [0u16; 512];
-    for l in 1..=n {
-        let w = 1 << (l - 1);
-        for b in 0..2 {
-            let key = base[l - 1] ^ times(b as u128, delta);
-            for i in 0..w {
-                numbers[2 * w + b * w + i] = hash_low(key, point(gate, 256 + w + i)) & low;
-            }
-        }
-    }
-    // The masked table.
-    let s = hash_low(seed, (1 << 32) + 2048 + u64::from(gate)) & low;
+    garble_one_hot(gate, delta, base, v, material);
+    let numbers = pick_all(gate, delta, base, low_bits(m));
+    let s = hash_low(seed, (1 << 32) + 2048 + u64::from(gate)) & low_bits(m);
     let mut masked = [0u16; 256];
     let masked = &mut masked[..1 << n];
-    for (x, f) in masked.iter_mut().enumerate() {
-        let at = 2 * (x ^ alpha);
-        *f = u16::from_le_bytes([rows[at], rows[at + 1]]) ^ s;
-        for l in 1..=n {
-            *f ^= numbers[(1 << l) + (x & ((1 << l) - 1))];
-        }
-    }
+    mask(rows, alpha, s, n, &numbers, masked);
     pack(masked, m, &mut material[16 * (n - 1 + n * m)..]);
     for (j, label) in new.iter_mut().enumerate() {
         *label = times(u128::from(s >> j), delta);
     }
     gather(masked, v, new);
-    // The random function's labels.
-    let mut place = n - 1;
+    garble_levels(gate, delta, base, &numbers, v, &mut material[16 * (n - 1)..], new);
+}
+
+/// The garbler's levels, the last first.
+#[inline]
+fn garble_levels(
+    gate: u32,
+    delta: Label,
+    base: &[Label],
+    numbers: &[u16],
+    v: &mut [Label],
+    rows: &mut [u8],
+    new: &mut [Label],
+) {
+    let (n, m) = (base.len(), new.len());
     for l in (1..=n).rev() {
-        let w = 1 << (l - 1);
-        let mut zero = [0; 16];
-        let mut one = [0; 16];
-        gather(&numbers[2 * w..3 * w], &v[..w], &mut zero[..m]);
-        gather(&numbers[3 * w..4 * w], &v[w..2 * w], &mut one[..m]);
-        let key = base[l - 1];
-        for j in 0..m {
-            let t = point(gate, 512 + 16 * l + j);
-            let part = zero[j] ^ hash(key, t);
-            put_label(material, place, part ^ one[j] ^ hash(key ^ delta, t));
-            place += 1;
-            new[j] ^= part;
-        }
-        fold(&mut v[..2 * w]);
+        let keys = [base[l - 1], base[l - 1] ^ delta];
+        garble_level(gate, l, keys, numbers, v, &mut rows[16 * m * (n - l)..], new);
+        fold(&mut v[..1 << l]);
+    }
+}
+
+/// The evaluator's one-hot labels: at each level the one that it lacks comes out of the row.
+#[inline]
+fn evaluate_one_hot(gate: u32, labels: &[Label], v: &mut [Label], material: &[u8]) {
+    v[0] = labels[0];
+    v[1] = labels[0];
+    let mut x = (labels[0] & 1) as usize;
+    for (j, label) in labels.iter().enumerate().skip(1) {
+        let w = 1 << j;
+        let (front, back) = v[..2 * w].split_at_mut(w);
+        let row = label_at(material, j - 1) ^ label;
+        let known = (0..x).chain(x + 1..w);
+        let missing = known.fold(row, |all, i| all ^ split(gate, w + i, &mut front[i], &mut back[i]));
+        back[x] = missing;
+        front[x] ^= missing;
+        x |= (label & 1) as usize * w;
+    }
+}
+
+/// One level of the evaluator's: its parts of the new labels, from its rows of the material.
+#[inline]
+fn evaluate_level(gate: u32, l: usize, key: Label, numbers: &[u16], v: &[Label], rows: &[u8], new: &mut [Label]) {
+    let w = 1 << (l - 1);
+    let b = (key & 1) as usize;
+    gather(numbers, &v[b * w..b * w + w], new);
+    for (j, label) in new.iter_mut().enumerate() {
+        *label ^= hash(key, point(gate, 512 + 16 * l + j)) ^ times(key, label_at(rows, j));
     }
 }
 
 /// The evaluator's step of a table gate: n labels, the material and m new labels.
 pub fn evaluate_table(gate: u32, labels: &[Label], material: &[u8], new: &mut [Label]) {
     let (n, m) = (labels.len(), new.len());
-    let low = ((1u32 << m) - 1) as u16;
     let mut memory = [0; 256];
     let v = &mut memory[..1 << n];
-    v[0] = labels[0];
-    v[1] = labels[0];
-    let mut x = (labels[0] & 1) as usize;
-    for j in 1..n {
-        let w = 1 << j;
-        let (front, back) = v[..2 * w].split_at_mut(w);
-        let mut missing = label_at(material, j - 1) ^ labels[j];
-        for i in (0..x).chain(x + 1..w) {
-            let c = hash(front[i], point(gate, w + i));
-            back[i] = c;
-            front[i] ^= c;
-            missing ^= c;
-        }
-        back[x] = missing;
-        front[x] ^= missing;
-        x |= (labels[j] & 1) as usize * w;
-    }
+    evaluate_one_hot(gate, labels, v, material);
     let mut masked = [0u16; 256];
     let masked = &mut masked[..1 << n];
     unpack(&material[16 * (n - 1 + n * m)..], m, masked);
     new.fill(0);
     gather(masked, v, new);
     let mut numbers = [0u16; 128];
-    let mut place = n - 1;
     for l in (1..=n).rev() {
-        let w = 1 << (l - 1);
-        let key = labels[l - 1];
-        let b = (key & 1) as usize;
-        let numbers = &mut numbers[..w];
-        for (i, number) in numbers.iter_mut().enumerate() {
-            *number = hash_low(key, point(gate, 256 + w + i)) & low;
-        }
-        gather(numbers, &v[b * w..b * w + w], new);
-        for (j, label) in new.iter_mut().enumerate() {
-            *label ^= hash(key, point(gate, 512 + 16 * l + j)) ^ times(key, label_at(material, place));
-            place += 1;
-        }
-        fold(&mut v[..2 * w]);
+        let numbers = &mut numbers[..1 << (l - 1)];
+        pick(gate, labels[l - 1], low_bits(m), numbers);
+        let rows = &material[16 * (n - 1 + m * (n - l))..];
+        evaluate_level(gate, l, labels[l - 1], numbers, v, rows, new);
+        fold(&mut v[..1 << l]);
     }
 }
 

@@ -267,29 +267,45 @@ fn turns(batch: &mut Batch, kind: Kind) -> u32 {
     turns
 }
 
+/// The rounds of one kind: the best time of each side, and the ratios.
+struct Timed {
+    kind: Kind,
+    name: &'static str,
+    batch: Batch,
+    turns: u32,
+    best: [f64; 2],
+    ratios: Vec<f64>,
+}
+
+impl Timed {
+    fn new((kind, name): (Kind, &'static str)) -> Timed {
+        let mut batch = Batch::new(&mut Random(0xD1B5_4A32_D192_ED03), kind);
+        let turns = turns(&mut batch, kind);
+        Timed { kind, name, batch, turns, best: [f64::INFINITY; 2], ratios: Vec::new() }
+    }
+
+    fn round(&mut self) {
+        let took = [Side::Ours, Side::Plain].map(|side| time(&mut self.batch, self.kind, side, self.turns));
+        self.ratios.push(took[0] / took[1]);
+        self.best = [self.best[0].min(took[0]), self.best[1].min(took[1])];
+    }
+
+    fn print(&mut self) {
+        let [ours, plain] = self.best.map(|it| it / self.kind.batch() as f64);
+        self.ratios.sort_by(f64::total_cmp);
+        let median = self.ratios[ROUNDS / 2];
+        println!("{:<16}{ours:>12.1}{plain:>12.1}{:>8.3}{median:>8.3}", self.name, ours / plain);
+    }
+}
+
 /// The best of many short rounds of all kinds and both sides in turn, and the median of the rounds' ratios.
 fn time_all() {
-    let mut batches = KINDS.map(|(kind, _)| Batch::new(&mut Random(0xD1B5_4A32_D192_ED03), kind));
-    let mut turns_of = [0; KINDS.len()];
-    for (i, (kind, _)) in KINDS.iter().enumerate() {
-        turns_of[i] = turns(&mut batches[i], *kind);
-    }
-    let mut best = [[f64::INFINITY; 2]; KINDS.len()];
-    let mut ratios = [const { Vec::new() }; KINDS.len()];
+    let mut all = KINDS.map(Timed::new);
     for _ in 0..ROUNDS {
-        for (i, (kind, _)) in KINDS.iter().enumerate() {
-            let took = [Side::Ours, Side::Plain].map(|side| time(&mut batches[i], *kind, side, turns_of[i]));
-            ratios[i].push(took[0] / took[1]);
-            best[i] = [best[i][0].min(took[0]), best[i][1].min(took[1])];
-        }
+        all.iter_mut().for_each(Timed::round);
     }
     println!("{:<16}{:>12}{:>12}{:>8}{:>8}", "", "ours, ns", "plain, ns", "ratio", "median");
-    for (i, (kind, name)) in KINDS.iter().enumerate() {
-        let [ours, plain] = best[i].map(|it| it / kind.batch() as f64);
-        ratios[i].sort_by(f64::total_cmp);
-        let median = ratios[i][ROUNDS / 2];
-        println!("{name:<16}{ours:>12.1}{plain:>12.1}{:>8.3}{median:>8.3}", ours / plain);
-    }
+    all.iter_mut().for_each(Timed::print);
 }
 
 /// Does n batches of one kind on one side.

@@ -44,10 +44,7 @@ fn add_answer(text: &mut String, answer: Answer<Long>) -> Result<(), AllocError>
 {
     match answer {
         Answer::NotMade => text.push_str("not made"),
-        Answer::Refused(why) => {
-            let number = why.number();
-            write!(text, "refused {number}")
-        }
+        Answer::Refused(why) => write!(text, "{why}"),
         Answer::Garbled { bits, bytes } => write!(text, "garbled {bits} bits {bytes} bytes"),
         Answer::Encoded(label) => {
             text.push_str("label ")?;

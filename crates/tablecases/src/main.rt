@@ -47,13 +47,22 @@ fn print_case<L: Label, F: LabelFunction<L>>(
     println!(rt; "{name} {n} {m} {bytes} {digest:016X} {asked} {again} {zero:016X} {held:016X}")
 }
 
+// Prints the lines of the gates of n inputs.
+fn print_cases(rt: &HostRuntime, n: usize) -> io::Result<()>
+    requires some_input { 1 ≤ n }
+    requires inputs { n ≤ 8 }
+{
+    for m in [1, 2, 7, 8, 16] {
+        print_case::<Paper, PaperFunction>(rt, "paper", n, m)?;
+        print_case::<Long, AesFunction>(rt, "aes", n, m)?;
+        print_case::<Long, ShaFunction>(rt, "sha", n, m)?;
+    }
+    Ok(())
+}
+
 fn main(rt: HostRuntime) -> io::Result<()> {
     for n in 1..=8 {
-        for m in [1, 2, 7, 8, 16] {
-            print_case::<Paper, PaperFunction>(&rt, "paper", n, m)?;
-            print_case::<Long, AesFunction>(&rt, "aes", n, m)?;
-            print_case::<Long, ShaFunction>(&rt, "sha", n, m)?;
-        }
+        print_cases(&rt, n)?;
     }
     Ok(())
 }

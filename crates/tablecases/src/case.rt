@@ -1,5 +1,6 @@
 // One gate, garbled and evaluated.
-ghost use Rattle.std.specs.Prelude.{◌≡◌, ◌*◌, ◌^◌, ◌<◌, ◌≤◌, length, vec_len, IfOk};
+ghost use Rattle.std.specs.Prelude.{◌≡◌, ◌*◌, ◌^◌, ◌<◌, ◌≤◌, length};
+ghost use Rattle.std.specs.Mem.{type_size};
 ghost use Rattle.material.specs.Size.{bytes_of};
 
 use crate::operands::{labels_of, seed_of, table_rows, zero_labels};
@@ -7,48 +8,52 @@ use hashes::draws::draw;
 use hashes::hash::LabelHash;
 use labels::kind::Label;
 use material::{byte_count, row_count};
-use std::alloc::{AllocError, Global};
 use tables::gate;
 
 // A table gate with its seed and offset, the zero labels of its operands, and their labels for one row.
 #[derive(Drop)]
-pub struct Case<L> {
+pub struct Case<'a, L> {
     gate: u32,
     outputs: usize,
     seed: L,
     offset: L,
-    zeros: Vec<L>,
-    labels: Vec<L>,
-    rows: Vec<u8>,
+    zeros: &'a [L],
+    labels: &'a [L],
+    rows: &'a [u8],
     ghost numbered: { gate < 512 },
     ghost few_outputs: { outputs ≤ 16 },
-    ghost some_operand: { 1 ≤ vec_len zeros },
-    ghost few_operands: { vec_len zeros ≤ 8 },
-    ghost labelled: { vec_len labels ≡ vec_len zeros },
-    ghost whole: { vec_len rows ≡ 2 * 2 ^ vec_len zeros },
+    ghost some_operand: { 1 ≤ length zeros.now },
+    ghost few_operands: { length zeros.now ≤ 8 },
+    ghost labelled: { length labels.now ≡ length zeros.now },
+    ghost whole: { length rows.now ≡ 2 * 2 ^ length zeros.now },
 }
 
-impl<L: Label> Case<L> {
-    // The case of n operands and m new wires.
+impl<'a, L: Label> Case<'a, L> {
+    // The case of n operands and m new wires, its labels and rows in the front of lent memory.
     pub fn new<H: LabelHash<L>>(
-        alloc: Global,
         hash: &mut H,
         n: usize,
         m: usize,
-    ) -> Result<Case<L>, AllocError>
+        zeros: &'a mut [L],
+        labels: &'a mut [L],
+        rows: &'a mut [u8],
+    ) -> Case<'a, L>
         requires some_operand { 1 ≤ n }
         requires operands { n ≤ 8 }
         requires outputs { m ≤ 16 }
-        ensures zeros { IfOk result (λ case. vec_len case.zeros ≡ n) }
-        ensures new { IfOk result (λ case. case.outputs ≡ m) }
+        requires zeros { n ≤ length zeros.old }
+        requires labels { n ≤ length labels.old }
+        requires rows { 2 * 2 ^ n ≤ length rows.old }
+        ensures zeros { length result.zeros.now ≡ n }
+        ensures new { result.outputs ≡ m }
     {
-        let seed = seed_of(alloc, n, m)?;
+        let seed = seed_of(n, m);
         let offset = draw(hash, seed, 0).raise();
-        let zeros = zero_labels(alloc, hash, seed, n)?;
+        let zeros = zero_labels(hash, seed, n, zeros);
         let row = (29 * n + 13 * m) % row_count(n);
-        let labels = labels_of(alloc, &zeros, offset, row)?;
-        let rows = table_rows(alloc, n, m)?;
-        Ok(Case {
+        let labels = labels_of(zeros, offset, row, labels);
+        let rows = table_rows(n, m, rows);
+        Case {
             gate: (60 * n + m) as u32,
             outputs: m,
             seed,
@@ -56,61 +61,60 @@ impl<L: Label> Case<L> {
             zeros,
             labels,
             rows,
-        })
+        }
     }
 
-    // Scratch, not zero when lent.
-    fn scratch(&self, alloc: Global) -> Result<Vec<L>, AllocError>
-        ensures { IfOk result (λ scratch. vec_len scratch ≡ 300) }
-    {
-        vec![in alloc; self.seed; 300]
-    }
-
-    // The gate's material and the zero labels of its new wires.
-    pub fn garble<H: LabelHash<L>>(
+    // The gate's material and the zero labels of its new wires, in the front of lent memory. The scratch is not zero when lent.
+    pub fn garble<'b, H: LabelHash<L>>(
         &self,
-        alloc: Global,
         hash: &mut H,
-    ) -> Result<(Vec<u8>, Vec<L>), AllocError>
-        ensures material { IfOk result (λ made. vec_len made.0 ≡ bytes_of L.kind.width (vec_len self.now.zeros) self.now.outputs) }
-        ensures new { IfOk result (λ made. vec_len made.1 ≡ self.now.outputs) }
+        material: &'b mut [u8],
+        new: &'b mut [L],
+    ) -> (&'b [u8], &'b [L])
+        requires fits { 300 * type_size L.row < 2 ^ 63 }
+        requires material { bytes_of L.kind.width (length self.now.zeros.now) self.now.outputs ≤ length material.old }
+        requires new { self.now.outputs ≤ length new.old }
+        ensures material { length result.0.now ≡ bytes_of L.kind.width (length self.now.zeros.now) self.now.outputs }
+        ensures new { length result.1.now ≡ self.now.outputs }
     {
         let bytes = byte_count(L::width(), self.zeros.len(), self.outputs);
-        let mut material = vec![in alloc; 0; bytes]?;
-        let mut new = vec![in alloc; L::zero(); self.outputs]?;
+        let material = &mut material[..bytes];
+        let new = &mut new[..self.outputs];
         gate::garble(
             hash,
             self.gate,
             self.seed,
             self.offset,
-            &self.zeros,
-            &self.rows,
-            &mut material,
-            &mut self.scratch(alloc)?,
-            &mut new,
+            self.zeros,
+            self.rows,
+            material,
+            &mut [self.seed; 300],
+            new,
         );
-        Ok((material, new))
+        (material, new)
     }
 
-    // The labels of the new wires, from the operands' labels.
-    pub fn evaluate<H: LabelHash<L>>(
+    // The labels of the new wires, from the operands' labels, in the front of lent memory.
+    pub fn evaluate<'b, H: LabelHash<L>>(
         &self,
-        alloc: Global,
         hash: &mut H,
         material: &[u8],
-    ) -> Result<Vec<L>, AllocError>
-        requires { length material.now ≡ bytes_of L.kind.width (vec_len self.now.zeros) self.now.outputs }
-        ensures { IfOk result (λ new. vec_len new ≡ self.now.outputs) }
+        new: &'b mut [L],
+    ) -> &'b [L]
+        requires fits { 300 * type_size L.row < 2 ^ 63 }
+        requires material { length material.now ≡ bytes_of L.kind.width (length self.now.zeros.now) self.now.outputs }
+        requires new { self.now.outputs ≤ length new.old }
+        ensures { length result.now ≡ self.now.outputs }
     {
-        let mut new = vec![in alloc; L::zero(); self.outputs]?;
+        let new = &mut new[..self.outputs];
         gate::evaluate(
             hash,
             self.gate,
-            &self.labels,
+            self.labels,
             material,
-            &mut self.scratch(alloc)?,
-            &mut new,
+            &mut [self.seed; 300],
+            new,
         );
-        Ok(new)
+        new
     }
 }

@@ -1,9 +1,8 @@
 // Digests by FNV-1a in 64 bits.
-ghost use Rattle.std.specs.Prelude.{◌≡◌, IfOk};
+ghost use Rattle.std.specs.Prelude.{◌≡◌};
 ghost use Rattle.tablecases.specs.Digests.{empty, extended_by, digest_of_labels};
 
 use labels::kind::Label;
-use std::alloc::{AllocError, Global};
 
 // The digest of no bytes.
 const EMPTY: u64 = 0xCBF2_9CE4_8422_2325;
@@ -25,14 +24,16 @@ pub fn digest_bytes(bytes: &[u8]) -> u64
 }
 
 // The digest of the labels' bytes, one label after the other.
-pub fn digest_labels<L: Label>(alloc: Global, labels: &[L]) -> Result<u64, AllocError>
-    ensures { IfOk result (λ digest. digest ≡ digest_of_labels L.kind labels.now) }
+pub fn digest_labels<L: Label>(labels: &[L]) -> u64
+    ensures { result ≡ digest_of_labels L.kind labels.now }
 {
-    let mut bytes = vec![in alloc; 0; L::width()]?;
+    // The widest label has 4096 bytes.
+    let mut widest = [0; 4096];
+    let bytes = &mut widest[..L::width()];
     let mut digest = EMPTY;
     for label in labels {
-        label.write(&mut bytes);
-        digest = extend(digest, &bytes);
+        label.write(bytes);
+        digest = extend(digest, bytes);
     }
-    Ok(digest)
+    digest
 }

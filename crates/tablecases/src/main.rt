@@ -6,7 +6,8 @@ mod case;
 mod digest;
 mod operands;
 
-ghost use Rattle.std.specs.Prelude.{◌≤◌};
+ghost use Rattle.std.specs.Prelude.{◌*◌, ◌^◌, ◌<◌, ◌≤◌};
+ghost use Rattle.std.specs.Mem.{type_size};
 
 use crate::case::Case;
 use crate::digest::{digest_bytes, digest_labels};
@@ -22,6 +23,7 @@ use labels::paper::Paper;
 use std::io;
 
 // Prints the line of a gate of n inputs and m outputs under the function F of this name.
+#[tactic(auto, using(crate::proofs::Sizes::few_bytes))]
 fn print_case<L: Label, F: LabelFunction<L>>(
     rt: &HostRuntime,
     name: &str,
@@ -31,19 +33,27 @@ fn print_case<L: Label, F: LabelFunction<L>>(
     requires some_input { 1 ≤ n }
     requires inputs { n ≤ 8 }
     requires outputs { m ≤ 16 }
+    requires fits { 300 * type_size L.row < 2 ^ 63 }
+    requires narrow { L.kind.width ≤ 16 }
 {
-    let alloc = rt.alloc();
+    let mut zeros = [L::zero(); 8];
+    let mut labels = [L::zero(); 8];
+    let mut rows = [0; 512];
+    let mut material = [0; 4096];
+    let mut new = [L::zero(); 16];
+    let mut found = [L::zero(); 16];
     let mut garbler = Counted::<F>::starting_at(0);
     let mut evaluator = Counted::<F>::starting_at(0);
-    let case = Case::<L>::new(alloc, &mut Counted::<F>::starting_at(0), n, m)?;
-    let (material, new) = case.garble(alloc, &mut garbler)?;
-    let found = case.evaluate(alloc, &mut evaluator, &material)?;
+    let mut drawing = Counted::<F>::starting_at(0);
+    let case = Case::new(&mut drawing, n, m, &mut zeros, &mut labels, &mut rows);
+    let (material, new) = case.garble(&mut garbler, &mut material, &mut new);
+    let found = case.evaluate(&mut evaluator, material, &mut found);
     let bytes = material.len();
-    let digest = digest_bytes(&material);
+    let digest = digest_bytes(material);
     let asked = garbler.count();
     let again = evaluator.count();
-    let zero = digest_labels(alloc, &new)?;
-    let held = digest_labels(alloc, &found)?;
+    let zero = digest_labels(new);
+    let held = digest_labels(found);
     println!(rt; "{name} {n} {m} {bytes} {digest:016X} {asked} {again} {zero:016X} {held:016X}")
 }
 

@@ -1,5 +1,5 @@
-use Rattle.std.proofs.Common.{◌≡◌, ◌*◌, vec_len}
+use Rattle.std.proofs.Common.{◌≡◌, ◌*◌}
 use Rattle.tablecases.proofs.operands.table_rows.Given as goal
 
 abbrev pub invariant-loop-k : goal.invariant-loop-k
-invariant-loop-k l = vec_len l.rows ≡ 2 * l.k
+invariant-loop-k l = l.bytes ≡ 2 * l.k

@@ -81,9 +81,9 @@ fn take_wire<L: Label>(j: usize, buckets: &mut [L]) -> L
     take_bit(buckets, 16 * (j / 4), 8 >> (j % 4))
 }
 
-// For each wire j the ⊕ of the labels in v whose number has bit j: in step 2 S(b,j), and in step 4, of V and the numbers f',
-// the new wires but for the offset's share and the parts of step 2.
-pub fn choose<L: Label>(nums: &[u16], v: &[L], new: &mut [L])
+// By buckets, which look at each label once: the new wires' labels as `choose` has them. On its own, so that `choose` stays small.
+#[inline(never)]
+fn choose_sorted<L: Label>(nums: &[u16], v: &[L], new: &mut [L])
     requires fits { 64 * type_size L.row < 2 ^ 63 }
     requires small { length new.old ≤ 16 }
     requires paired { length nums.now ≡ length v.now }
@@ -93,6 +93,45 @@ pub fn choose<L: Label>(nums: &[u16], v: &[L], new: &mut [L])
     sort(nums, v, &mut buckets);
     for (j, label) in new.iter_mut().enumerate() {
         *label = take_wire(j, &mut buckets);
+    }
+}
+
+// The ⊕ of the labels in v whose number has bit j.
+fn gather<L: Label>(j: usize, nums: &[u16], v: &[L]) -> L
+    requires small { j < 16 }
+    requires paired { length nums.now ≡ length v.now }
+    ensures { result ≡ chosen L.kind j (length v.now) (λ i. slice_index nums.now i) (places L.kind v.now) }
+{
+    let mut all = L::zero();
+    for (n, x) in nums.iter().zip(v) {
+        all = all.xor(times(has_bit(*n, j), *x));
+    }
+    all
+}
+
+// Wire by wire, which needs no buckets: the new wires' labels as `choose` has them.
+fn choose_each<L: Label>(nums: &[u16], v: &[L], new: &mut [L])
+    requires small { length new.old ≤ 16 }
+    requires paired { length nums.now ≡ length v.now }
+    ensures { Holds L.kind (length new.old) (λ j. chosen L.kind j (length v.now) (λ i. slice_index nums.now i) (places L.kind v.now)) new.new }
+{
+    for (j, label) in new.iter_mut().enumerate() {
+        *label = gather(j, nums, v);
+    }
+}
+
+// For each wire j the ⊕ of the labels in v whose number has bit j: in step 2 S(b,j), and in step 4, of V and the numbers f',
+// the new wires but for the offset's share and the parts of step 2. Where wires or labels are few, buckets would take longer.
+pub fn choose<L: Label>(nums: &[u16], v: &[L], new: &mut [L])
+    requires fits { 64 * type_size L.row < 2 ^ 63 }
+    requires small { length new.old ≤ 16 }
+    requires paired { length nums.now ≡ length v.now }
+    ensures { Holds L.kind (length new.old) (λ j. chosen L.kind j (length v.now) (λ i. slice_index nums.now i) (places L.kind v.now)) new.new }
+{
+    if new.len() <= 4 || v.len() <= 8 {
+        choose_each(nums, v, new);
+    } else {
+        choose_sorted(nums, v, new);
     }
 }
 

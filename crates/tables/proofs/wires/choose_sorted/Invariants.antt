@@ -2,7 +2,7 @@ use Rattle.std.proofs.Common.{◌≡◌, get_or, length}
 use Rattle.tables.specs.Level.{Sorted, Holds}
 use Rattle.labels.specs.Lists.{places}
 use Rattle.tables.specs.Table.{chosen}
-use Rattle.tables.proofs.wires.choose.Given as goal
+use Rattle.tables.proofs.wires.choose_sorted.Given as goal
 
 abbrev pub invariant-loop-j : goal.invariant-loop-j
 invariant-loop-j g l =

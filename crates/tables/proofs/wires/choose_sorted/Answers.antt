@@ -3,7 +3,7 @@ use Rattle.std.proofs.lemmas.List.{get_or-replicate, length-replicate}
 use Rattle.labels.specs.Lists.{places}
 use Rattle.tables.proofs.Buckets.{sorted_first}
 use Rattle.tables.proofs.Filling.{holds_none, holds_more}
-use Rattle.tables.proofs.wires.choose.Goals as goal
+use Rattle.tables.proofs.wires.choose_sorted.Goals as goal
 
 pub sort-requires-clause-empty : goal.sort-requires-clause-empty
 sort-requires-clause-empty g c = λ i l. get_or-replicate 64 i _ g.L.Label.kind.zero l ∙ c.zero-buckets.ensures

@@ -22,3 +22,11 @@ pub fn encrypt_fixed(x: Block) -> Block
 {
     encrypt_with(&WORDS, x)
 }
+
+// Two blocks under the same key.
+pub fn encrypt_fixed_two(x: Block, y: Block) -> (Block, Block)
+    ensures first { bytes_of result.0 ≡ enciphered fixed_key (bytes_of x) }
+    ensures second { bytes_of result.1 ≡ enciphered fixed_key (bytes_of y) }
+{
+    (encrypt_fixed(x), encrypt_fixed(y))
+}

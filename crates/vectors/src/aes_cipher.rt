@@ -1,7 +1,7 @@
 // The examples of FIPS 197, appendices B and C.1.
 use aes::block::Block;
 use aes::cipher::{encrypt, encrypt_under};
-use aes::fixed::encrypt_fixed;
+use aes::fixed::{encrypt_fixed, encrypt_fixed_two};
 use aes::key_schedule::RoundKeys;
 
 #[test]
@@ -42,4 +42,10 @@ fn appendix_c1(rt: HostRuntime) {
         answer
     );
     assert_eq!(rt; <[u8; 16]>::from(encrypt_fixed(block)), answer);
+    let (first, second) = encrypt_fixed_two(key, block);
+    assert_eq!(rt;
+        <[u8; 16]>::from(first),
+        <[u8; 16]>::from(encrypt(key, key))
+    );
+    assert_eq!(rt; <[u8; 16]>::from(second), answer);
 }

@@ -3,7 +3,7 @@
 
 ghost use Rattle.std.specs.Prelude.{◌≡◌, ◌*◌, ◌^◌, ◌≤◌};
 ghost use Rattle.labels.specs.Kind.{widest};
-ghost use Rattle.material.specs.Size.{table_bits, bytes_of, WholeBytes};
+ghost use Rattle.material.specs.Size.{table_bits, bits_of, bytes_of, WholeBytes};
 
 // The rows of a table of n inputs.
 pub fn row_count(n: usize) -> usize
@@ -24,7 +24,18 @@ pub fn table_bits(kappa: usize, n: usize, m: usize) -> usize
     (n - 1) * kappa + n * m * kappa + row_count(n) * m
 }
 
-// The bytes, for labels of so many bytes.
+// The same for labels of so many bytes.
+pub fn bit_count(width: usize, n: usize, m: usize) -> usize
+    requires narrow { width ≤ widest }
+    requires some_input { 1 ≤ n }
+    requires inputs { n ≤ 8 }
+    requires outputs { m ≤ 16 }
+    ensures { result ≡ bits_of width n m }
+{
+    table_bits(8 * width, n, m)
+}
+
+// Its bytes.
 pub fn byte_count(width: usize, n: usize, m: usize) -> usize
     requires narrow { width ≤ widest }
     requires some_input { 1 ≤ n }

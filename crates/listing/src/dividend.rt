@@ -175,6 +175,6 @@ pub fn settle_text(
 {
     match has_sixteen(circuit) {
         Ok(()) => settled(heap, circuit, seed, first, second),
-        Err(why) => refused(heap, why),
+        Err(refusal) => refused(heap, refusal),
     }
 }

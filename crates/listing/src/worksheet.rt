@@ -138,6 +138,6 @@ pub fn worksheet_text(heap: Global, input: &[u8]) -> Result<String, AllocError>
 {
     match cut_input(input) {
         Ok(p) => work(heap, p),
-        Err(why) => refused(heap, why),
+        Err(refusal) => refused(heap, refusal),
     }
 }

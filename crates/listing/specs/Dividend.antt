@@ -1,16 +1,16 @@
 -- A joint dividend: two ticket counts of 7 bits go in, and a number of 16 bits comes out. Assumes nothing.
-use Rattle.std.specs.Prelude.{ℕ, zero, suc, ◌+◌, ◌*◌, not, Bool, List, [], ◌∷◌, ◌++◌, codes, decimal, Option, ◌==◌}
+use Rattle.std.specs.Prelude.{◌≡◌, ℕ, zero, suc, ◌+◌, ◌*◌, ◌≤◌, not, Bool, List, [], ◌∷◌, ◌++◌, codes, decimal, Option, ◌==◌, nat_eq, slice_index}
 use Rattle.labels.specs.Longs.{long}
 use Rattle.labels.specs.Numbers.{bit, digit, number}
 use Rattle.labels.specs.declared.long.Long.{Long}
 use Rattle.hashes.specs.AesHash.{aes_hash}
 use Rattle.circuit.specs.Parts.{parts_of}
-use Rattle.circuit.specs.Gates.{output_of}
-use Rattle.circuit.specs.Check.{circuit_refusal, bytes_in}
+use Rattle.circuit.specs.Gates.{wires_in, output_of}
+use Rattle.circuit.specs.Check.{most_wires, circuit_refusal, bytes_in}
 use Rattle.circuit.specs.Refusals.{first_of, or_else}
 use Rattle.circuit.specs.declared.refusal.Refusal.{Refusal}
 use Rattle.circuit.specs.declared.refusal.Refusal.TheVariants.{Memory}
-use Rattle.plain.specs.Plain.{bit_in, plain_bit}
+use Rattle.plain.specs.Plain.{bit_in, plain_bit, Evaluated}
 use Rattle.settlement.specs.declared.call.Call.{Call}
 use Rattle.settlement.specs.declared.line.Line.{Line}
 use Rattle.exchange.specs.Course.{calls_in, course, course_line}
@@ -26,6 +26,13 @@ low_bits (suc n) a = low_bits n a ++ (digit (bit n a) ∷ [])
 -- the input bits of two counts
 abbrev pub count_bits : ℕ → ℕ → List ℕ
 count_bits first second = low_bits 7 first ++ low_bits 7 second
+
+-- the counts were evaluated in the clear on w wires, and the outputs' bits are the dividend
+pub record Settled (bytes : List ℕ) (first second : ℕ) (old new : List Bool) (outputs : List ℕ) (w dividend : ℕ) : Type 0 where
+  pub evaluated : Evaluated bytes (count_bits first second) old new outputs
+  pub count : w ≡ wires_in (parts_of bytes)
+  pub few : w ≤ most_wires
+  pub dividend_is : dividend ≡ number 16 (λ o. nat_eq (slice_index outputs o) 1)
 
 abbrev pub tickets_line : ℕ → ℕ → List ℕ
 tickets_line first second = codes "tickets " ++ (decimal first ++ (codes " " ++ (decimal second ++ codes "\n")))

@@ -9,6 +9,7 @@ ghost use Rattle.hashes.specs.AesHash.{aes_hash};
 ghost use Rattle.exchange.specs.Planned.{whole_refusal};
 
 use crate::calls::add_lines;
+pub use crate::clear::joint_dividend;
 use crate::lines::{add_outputs, refused};
 use circuit::check::read;
 use circuit::refusal::Refusal;
@@ -35,7 +36,7 @@ fn write_low(out: &mut [u8], value: u8)
 }
 
 // The input bits of two counts.
-fn input_bits(first: u8, second: u8) -> [u8; 14]
+pub(crate) fn input_bits(first: u8, second: u8) -> [u8; 14]
     ensures { result ≡ count_bits first second }
 {
     let mut bits = [0u8; 14];
@@ -45,7 +46,7 @@ fn input_bits(first: u8, second: u8) -> [u8; 14]
 }
 
 // The number whose bits the outputs are, the first lowest.
-fn number_of_outputs(outputs: &[u8]) -> u32
+pub(crate) fn number_of_outputs(outputs: &[u8]) -> u32
     requires { length outputs.now ≡ 16 }
     ensures { result ≡ number_from 16 (λ o. nat_eq (slice_index outputs.now o) 1) }
 {

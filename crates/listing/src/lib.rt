@@ -2,6 +2,7 @@
 #![tactic(auto)]
 
 mod calls;
+mod clear;
 pub mod dividend;
 mod hex;
 mod input;

@@ -8,9 +8,10 @@ use circuit::header::{header, within_limits};
 use circuit::refusal::Refusal;
 use circuit::sizes::Sizes;
 
-// A circuit, two seed bytes and a byte for each input bit.
+// A circuit with its sizes, two seed bytes and a byte for each input bit.
 #[derive(Clone, Copy)]
 pub struct Input<'a> {
+    pub sizes: Sizes,
     pub circuit: &'a [u8],
     pub seed: &'a [u8],
     pub bits: &'a [u8],
@@ -39,6 +40,7 @@ pub fn cut_input(input: &[u8]) -> Result<Input<'_>, Refusal>
         return Err(Refusal::Length);
     }
     Ok(Input {
+        sizes,
         circuit: &input[0..end],
         seed: &input[end..end + 2],
         bits: &input[end + 2..input.len()],

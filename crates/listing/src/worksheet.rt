@@ -15,7 +15,7 @@ ghost use Rattle.listing.specs.Lines.{out_line, text_unless};
 ghost use Rattle.listing.specs.Sheet.{offset_line, label_lines, material_line};
 ghost use Rattle.listing.specs.Worksheet.{sheet_of, worksheet_text};
 
-use crate::input::{Input, cut_input};
+pub use crate::input::{Input, cut_input};
 use crate::lines::{add_outputs, refused};
 use crate::sheet::{add_labels, add_material, add_offset};
 use circuit::refusal::Refusal;

@@ -4,7 +4,7 @@ use Rattle.std.proofs.lemmas.Result.{err_from_is_err_and}
 use Rattle.circuit.specs.Header.{sizes_of, within, words_in}
 use Rattle.circuit.specs.declared.sizes.Sizes.{Sizes}
 use Rattle.listing.specs.Worksheet.{circuit_end}
-use Rattle.listing.proofs.Inputs.{input_short, input_size, input_length, input_passes, seed_count}
+use Rattle.listing.proofs.Inputs.{input_short, input_size, input_length, input_passes, front_sizes, bits_count, seed_count}
 use Rattle.listing.proofs.input.cut_input.Goals as goal
 
 pub returns-in_err-sizes : goal.returns-in_err-sizes
@@ -40,8 +40,12 @@ returns c =
     let seed = ap₂ (λ (k j : ℕ). take k (drop j c.args.input.now)) two w in
     record {
       passes = input_passes c.args.input.now e.0 ok l;
+      sizes = e.1;
+      limits = ok;
       circuit = ap (λ (k : ℕ). take k c.args.input.now) w0;
       seed = seed;
       bits = take_rest c.args.input.now (2 * c.words_of-end.result + 2) ∙ ap (λ (k : ℕ). drop (k + 2) c.args.input.now) w;
+      front = front_sizes c.args.input.now;
+      count = bits_count c.args.input.now l;
       seed_long = ap length seed ∙ seed_count c.args.input.now l;
     }

@@ -18,31 +18,35 @@ pub trait Numbered: Label {
 
 impl Numbered for Paper {
     fn used() -> Paper {
-        Paper { word: 0xAAAA }
+        Paper::of(0xAAAA)
     }
 
     fn of(number: u16) -> Paper {
-        Paper { word: number }
+        Paper::read(&number.to_le_bytes())
     }
 
     fn add_to(self, text: &mut String) -> Result<(), AllocError> {
-        let word = self.word;
+        let mut bytes = [0; 2];
+        self.write(&mut bytes);
+        let word = u16::from_le_bytes(bytes);
         write!(text, "{word:04X}")
     }
 }
 
 impl Numbered for Flat {
     fn used() -> Flat {
-        Flat { byte: 9 }
+        Flat::of(9)
     }
 
     fn of(number: u16) -> Flat {
         let [byte, _] = number.to_le_bytes();
-        Flat { byte }
+        Flat::read(&[byte])
     }
 
     fn add_to(self, text: &mut String) -> Result<(), AllocError> {
-        let byte = self.byte;
+        let mut bytes = [0; 1];
+        self.write(&mut bytes);
+        let [byte] = bytes;
         write!(text, "{byte:02X}")
     }
 }

@@ -11,7 +11,7 @@ use Rattle.listing.specs.Worksheet.{circuit_end, circuit_in, seed_in, bits_from,
 word_front : (n k : ℕ) (xs : List ℕ) → 2 * k + 1 < n → word_at (take n xs) k ≡ word_at xs k
 word_front n k xs h = ap₂ (λ (a b : ℕ). a + 256 * b) (get_or-take n xs (2 * k) 0 (omega arith)) (get_or-take n xs (2 * k + 1) 0 h)
 
-sizes_front : (n : ℕ) (xs : List ℕ) → 10 ≤ n → sizes_of (take n xs) ≡ sizes_of xs
+pub sizes_front : (n : ℕ) (xs : List ℕ) → 10 ≤ n → sizes_of (take n xs) ≡ sizes_of xs
 sizes_front n xs h =
     let a = word_front n 0 xs (omega arith) in
     let b = word_front n 1 xs (omega arith) in
